@@ -1,0 +1,12 @@
+# `make mao` proves the program and leaves it at ./mao; `make check` runs the gate; `make bench` prints ratios.
+.PHONY: mao check bench
+
+mao:
+	cd crates/mao_main && rt run -- --mao=NOPKILL < /dev/null
+	ln -sf crates/mao_main/out/mao_main mao
+
+check:
+	.ci/run
+
+bench: mao
+	@if command -v python3 > /dev/null; then python3 bench/ratios.py ./mao; else echo "python3 isn't installed: skipped"; fi

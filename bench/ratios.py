@@ -1,0 +1,136 @@
+#!/usr/bin/env python3
+"""Times `mao --mao=NOPKILL` beside `cat` and `as` on texts in GCC's form, as ratios in one run.
+
+Usage: bench/ratios.py [PROGRAM]   (default: ./mao)
+
+The program is built first, by `make mao`. What isn't installed is skipped.
+"""
+
+import os
+import resource
+import shutil
+import subprocess
+import sys
+import tempfile
+import time
+
+MIB = 1 << 20
+
+FUNCTION = """\
+\t.p2align 4
+\t.globl\tf{k}
+\t.type\tf{k}, @function
+f{k}:
+.LFB{k}:
+\t.cfi_startproc
+\tendbr64
+\ttestl\t%esi, %esi
+\tjle\t.L{k}4
+\tmovslq\t%esi, %rsi
+\txorl\t%eax, %eax
+\tleaq\t(%rdi,%rsi,4), %rdx
+\tnop
+\t.p2align 4,,10
+\t.p2align 3
+.L{k}3:
+\tmovslq\t(%rdi), %rcx
+\taddq\t$4, %rdi
+\taddq\t%rcx, %rax
+\tcmpq\t%rdx, %rdi
+\tjne\t.L{k}3
+\tret
+.L{k}4:
+\txorl\t%eax, %eax
+\tret
+\t.cfi_endproc
+.LFE{k}:
+\t.size\tf{k}, .-f{k}
+"""
+
+
+def gcc_form(size):
+    """Functions in GCC's form, up to a size in bytes."""
+    parts, length, k = ["\t.file\t\"bench.c\"\n\t.text\n"], 24, 0
+    while length < size - 600:
+        part = FUNCTION.replace("{k}", str(k))
+        parts.append(part)
+        length += len(part)
+        k += 1
+    return "".join(parts)
+
+
+def plain_file(size):
+    """One plain function of at most 200,000 pieces, whose lines carry long comments."""
+    lines = 190_000
+    fill = "x" * max(1, size // lines - 24)
+    kinds = ["\taddl $1, %eax", "\tnop", "\tmovq %rax, %rcx", "\taddq $-7, %rdx"]
+    body = "".join(f"{kinds[i % 4]} # {fill}\n" for i in range(lines))
+    return f"\t.text\n\t.p2align 4\n\t.type f, @function\nf:\n{body}\tret\n\t.size f, .-f\n"
+
+
+def timed(command, path, runs=3):
+    """The least seconds of some runs, and the peak memory of all children so far in bytes."""
+    best = None
+    for _ in range(runs):
+        with open(path, "rb") as text:
+            start = time.perf_counter()
+            done = subprocess.run(command, stdin=text, stdout=subprocess.DEVNULL, stderr=subprocess.DEVNULL)
+            took = time.perf_counter() - start
+        if done.returncode != 0:
+            return None
+        best = took if best is None else min(best, took)
+    return best
+
+
+def peak_of(command, path):
+    """The peak memory of one run in bytes, measured in a child of its own."""
+    pid = os.fork()
+    if pid == 0:
+        with open(path, "rb") as text:
+            subprocess.run(command, stdin=text, stdout=subprocess.DEVNULL, stderr=subprocess.DEVNULL)
+        peak = resource.getrusage(resource.RUSAGE_CHILDREN).ru_maxrss
+        os._exit(min(255, peak // 16384))
+    _, status = os.waitpid(pid, 0)
+    return os.waitstatus_to_exitcode(status) * 16384 * 1024
+
+
+def main():
+    program = sys.argv[1] if len(sys.argv) > 1 else "./mao"
+    if not os.access(program, os.X_OK):
+        sys.exit(f"{program} isn't there: run `make mao` first")
+    mao = [os.path.abspath(program), "--mao=NOPKILL"]
+    texts = [
+        ("GCC's form, 1 MiB", gcc_form(MIB)),
+        ("GCC's form, 32 MiB", gcc_form(32 * MIB)),
+        ("plain file, 32 MiB", plain_file(31 * MIB)),
+        ("2,000,000 newlines", "\n" * 2_000_000),
+    ]
+    per_byte = {}
+    with tempfile.TemporaryDirectory() as folder:
+        path = os.path.join(folder, "text.s")
+        for name, text in texts:
+            with open(path, "w") as out:
+                out.write(text)
+            size = len(text)
+            own = timed(mao, path)
+            if own is None:
+                print(f"{name}: mao fails")
+                continue
+            per_byte[name] = own / size
+            line = f"{name}: {size} bytes, mao {own:.3f} s"
+            copy = timed(["cat"], path) if shutil.which("cat") else None
+            if copy:
+                line += f", {own / copy:.1f} times cat"
+            if shutil.which("as"):
+                assembled = timed(["as", "-o", "/dev/null"], path, runs=1)
+                if assembled:
+                    line += f", {own / assembled:.3f} times as"
+            line += f", peak memory {peak_of(mao, path) / size:.1f} times the input"
+            print(line, flush=True)
+    small, large = per_byte.get("GCC's form, 1 MiB"), per_byte.get("GCC's form, 32 MiB")
+    if small and large:
+        print(f"cost per byte at 32 MiB: {large / small:.2f} times that at 1 MiB")
+
+
+if __name__ == "__main__":
+    main()

@@ -1,0 +1,24 @@
+-- The bytes of assembly text, by class (GNU as manual, "Whitespace", "Symbol Names").
+use Rattle.std.specs.Prelude.{ℕ, Bool, not, ◌==◌, ◌||◌, ◌&&◌, nat_le}
+
+-- space, tab and carriage return
+unfoldable pub is_blank : ℕ → Bool
+is_blank b = b == 32 || b == 9 || b == 13
+
+unfoldable pub is_digit : ℕ → Bool
+is_digit b = nat_le 48 b && nat_le b 57
+
+unfoldable pub is_letter : ℕ → Bool
+is_letter b = (nat_le 65 b && nat_le b 90) || (nat_le 97 b && nat_le b 122)
+
+-- letters, digits, `_`, `.`, `$` and the bytes from 128 on
+unfoldable pub is_symbol_byte : ℕ → Bool
+is_symbol_byte b = is_letter b || is_digit b || b == 95 || b == 46 || b == 36 || nat_le 128 b
+
+-- what a symbol may begin with: a symbol byte that is no digit and no `$`
+unfoldable pub is_symbol_start : ℕ → Bool
+is_symbol_start b = is_symbol_byte b && not (is_digit b) && not (b == 36)
+
+-- `'`, `/`, backquote and `\`
+unfoldable pub is_freeze_byte : ℕ → Bool
+is_freeze_byte b = b == 39 || b == 47 || b == 96 || b == 92

@@ -1,0 +1,16 @@
+//! Assembly text cut into pieces, and pieces into tokens.
+#![tactic(auto)]
+
+mod bytes;
+mod pieces;
+mod scan;
+mod token;
+
+pub use pieces::{
+    CutFault, CutFreeze, Pieces, Span, SpanList, cut_pieces, pieces_of_a_text, pieces_that_are_left,
+};
+pub use scan::{Lead, Place, Scan};
+pub use token::{Token, TokenKind, TokenList, tokens};
+
+#[cfg(test)]
+mod tests;
