@@ -18,33 +18,33 @@ MIB = 1 << 20
 
 FUNCTION = """\
 \t.p2align 4
-\t.globl\tf{k}
-\t.type\tf{k}, @function
-f{k}:
+\t.globl\t_ZN8examples7numbers13sum_of_valuesEPKij{k}
+\t.type\t_ZN8examples7numbers13sum_of_valuesEPKij{k}, @function
+_ZN8examples7numbers13sum_of_valuesEPKij{k}:
 .LFB{k}:
 \t.cfi_startproc
 \tendbr64
 \ttestl\t%esi, %esi
-\tjle\t.L{k}4
+\tjle\t.L{k}_4
 \tmovslq\t%esi, %rsi
 \txorl\t%eax, %eax
 \tleaq\t(%rdi,%rsi,4), %rdx
 \tnop
 \t.p2align 4,,10
 \t.p2align 3
-.L{k}3:
+.L{k}_3:
 \tmovslq\t(%rdi), %rcx
 \taddq\t$4, %rdi
 \taddq\t%rcx, %rax
 \tcmpq\t%rdx, %rdi
-\tjne\t.L{k}3
+\tjne\t.L{k}_3
 \tret
-.L{k}4:
+.L{k}_4:
 \txorl\t%eax, %eax
 \tret
 \t.cfi_endproc
 .LFE{k}:
-\t.size\tf{k}, .-f{k}
+\t.size\t_ZN8examples7numbers13sum_of_valuesEPKij{k}, .-_ZN8examples7numbers13sum_of_valuesEPKij{k}
 """
 
 

@@ -4,3 +4,4 @@ pub mod PiecesLaws
 pub mod Numbers
 pub mod TokensLaws
 pub mod ChosenLaws
+pub mod Quiet

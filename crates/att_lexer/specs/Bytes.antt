@@ -22,3 +22,7 @@ is_symbol_start b = is_symbol_byte b && not (is_digit b) && not (b == 36)
 -- `'`, `/`, backquote and `\`
 unfoldable pub is_freeze_byte : ℕ → Bool
 is_freeze_byte b = b == 39 || b == 47 || b == 96 || b == 92
+
+-- a byte that neither ends a statement nor begins a string or a comment nor keeps a file as it is
+unfoldable pub is_quiet : ℕ → Bool
+is_quiet b = not (b == 10 || b == 59 || b == 34 || b == 35 || is_freeze_byte b)

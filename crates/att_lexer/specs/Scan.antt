@@ -56,3 +56,16 @@ scan_of bytes = fold after at_start bytes
 -- whether a byte that stands there ends the piece: a newline, a `;` outside strings and comments, the `:` of a first label
 unfoldable pub ends : Scan → ℕ → Bool
 ends s b = b == 10 || (b == 59 && is_plain s.place) || (b == 58 && is_name s.lead)
+
+-- outside strings and comments, behind what can be no first label
+abbrev pub still : Scan
+still = record { place = Plain; lead = Other }
+
+abbrev pub is_past : Lead → Bool
+is_past Blanks = false
+is_past Symbol = false
+is_past Digits = false
+is_past Other = true
+
+abbrev pub is_still : Scan → Bool
+is_still s = is_plain s.place && is_past s.lead

@@ -1,10 +1,12 @@
 // A text cut into its pieces.
-ghost use Rattle.std.specs.Prelude.{◌≡◌, ◌<◌, ◌≤◌, ℕ, Bool, List, [], ◌∷◌, ◌++◌, length, take, drop, IfOk, IfErr, OnOk, OnErr, None};
-ghost use Rattle.std.specs.List.{concat};
+ghost use Rattle.std.specs.Prelude.{◌≡◌, ◌&&◌, ◌<◌, ◌≤◌, ℕ, Bool, List, [], ◌∷◌, ◌++◌, length, take, drop, IsTrue, IfOk, IfErr, OnOk, OnErr, None};
+ghost use Rattle.std.specs.List.{concat, prefix_len};
+ghost use Rattle.att_lexer.specs.Bytes.{is_freeze_byte, is_quiet};
+ghost use Rattle.att_lexer.specs.Scan.{is_still, is_plain};
 ghost use Rattle.att_lexer.specs.Chosen.{chosen};
 ghost use Rattle.att_lexer.specs.Pieces.{ArePieces, pieces, spans_of, freeze_of, first_freeze, at_serial, IsCauseOf};
 
-use crate::bytes::is_freeze_byte;
+use crate::bytes::{is_freeze_byte, is_quiet};
 use crate::scan::{Place, Scan};
 use std::alloc::{AllocError, Global};
 use std::marker::Model;
@@ -85,6 +87,22 @@ pub enum CutFault {
     NoMemory,
 }
 
+// How many bytes in front are quiet.
+fn quiet_len(bytes: &[u8]) -> usize
+    ensures value { result ≡ prefix_len is_quiet bytes.now }
+    ensures bound { result ≤ length bytes.now }
+{
+    bytes.iter().take_while(|b| is_quiet(**b)).count()
+}
+
+// How many bytes in front neither end the piece nor change where the next one stands.
+fn passed_len(scan: Scan, rest: &[u8]) -> usize
+    ensures quiet { 0 < result → IsTrue (is_still scan) × (result ≤ prefix_len is_quiet rest.now) }
+    ensures bound { result ≤ length rest.now }
+{
+    if scan.is_still() { quiet_len(rest) } else { 0 }
+}
+
 // The length of the first piece.
 fn piece_len(text: &[u8]) -> usize
     requires { 0 < length text.now }
@@ -93,13 +111,32 @@ fn piece_len(text: &[u8]) -> usize
     ensures first { pieces text.now ≡ take result text.now ∷ pieces (drop result text.now) }
 {
     let mut scan = Scan::at_start();
-    for (i, b) in text.iter().enumerate() {
-        if scan.ends(*b) {
+    let mut i = 0;
+    while i < text.len() {
+        let b = text[i];
+        if scan.ends(b) {
             return i + 1;
         }
-        scan = scan.after(*b);
+        scan = scan.after(b);
+        i += 1;
+        i += passed_len(scan, &text[i..]);
     }
     text.len()
+}
+
+// How many bytes in front are quiet, outside strings and comments.
+fn skipped_len(place: Place, rest: &[u8]) -> usize
+    ensures quiet { 0 < result → IsTrue (is_plain place) × (result ≤ prefix_len is_quiet rest.now) }
+    ensures bound { result ≤ length rest.now }
+{
+    if place.is_plain() { quiet_len(rest) } else { 0 }
+}
+
+// Whether a byte that stands there keeps a file as it is.
+fn freezes(place: Place, b: u8) -> bool
+    ensures { result ≡ (is_plain place && is_freeze_byte b) }
+{
+    place.is_plain() && is_freeze_byte(b)
 }
 
 // The first byte of a piece that keeps a file as it is.
@@ -107,11 +144,15 @@ fn freeze_of(piece: &[u8]) -> Option<u8>
     ensures { result ≡ freeze_of piece.now }
 {
     let mut place = Place::Plain;
-    for b in piece {
-        if place.is_plain() && is_freeze_byte(*b) {
-            return Some(*b);
+    let mut i = 0;
+    while i < piece.len() {
+        let b = piece[i];
+        if freezes(place, b) {
+            return Some(b);
         }
-        place = place.after(*b);
+        place = place.after(b);
+        i += 1;
+        i += skipped_len(place, &piece[i..]);
     }
     if place.is_open() { Some(b'"') } else { None }
 }
