@@ -1,0 +1,6 @@
+pub mod Footprint
+pub mod Operations
+pub mod Places
+pub mod Frame
+pub mod LocSet
+pub mod Seen
