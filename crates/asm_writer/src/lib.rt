@@ -1,0 +1,17 @@
+//! Canonical text: one spelling for each instruction of the profile and for each alignment.
+#![tactic(auto)]
+
+mod fragment;
+mod line;
+mod operand;
+mod register;
+mod sink;
+mod text;
+
+pub use fragment::{Fragment, Fragments};
+pub use line::{align_fragments, insn_fragments};
+pub use sink::put_fragments;
+pub use text::{directive_text, insn_text};
+
+#[cfg(test)]
+mod tests;

@@ -1,0 +1,11 @@
+pub mod Lexemes
+pub mod Seen
+pub mod Notions
+pub mod Spelling
+pub mod Expressions
+pub mod Registers
+pub mod Operands
+pub mod Instructions
+pub mod Directives
+pub mod Entries
+pub mod Canonical

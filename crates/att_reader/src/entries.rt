@@ -1,0 +1,199 @@
+// The entry that a piece is.
+ghost use Rattle.std.specs.Prelude.{◌≡◌, ◌<◌, ◌≤◌, ◌^◌, length, IfOk};
+ghost use Rattle.std.specs.List.{fold, prefix_len};
+ghost use Rattle.att_lexer.specs.Bytes.{is_blank, is_symbol_byte};
+ghost use Rattle.att_lexer.specs.Scan.{lead_after};
+ghost use Rattle.att_lexer.specs.Tokens.{is_first_label, tokens_of};
+ghost use Rattle.att_lexer.specs.declared.scan.Lead.TheVariants.{Blanks};
+ghost use Rattle.att_grammar.specs.Lexemes.{says_all};
+ghost use Rattle.att_grammar.specs.Directives.{is_assignment};
+ghost use Rattle.att_grammar.specs.Entries.{opaque, only_word, label_of, without_blanks, is_apart, stands_first, is_inline_mark, is_directive, insn_or_opaque, statement_of, unlabelled, kind_of_piece, IsOfProfile};
+
+use crate::instructions::instruction;
+use att_grammar::{Cursor, Seen, Word};
+use att_lexer::{Lead, TokenList, tokens};
+use directive_model::read_directive;
+use insn_ir::{Entry, EntryKind, Name};
+use std::alloc::{AllocError, Global};
+
+fn opaque(alloc: Global, at: &Cursor) -> Result<EntryKind, AllocError>
+    ensures { IfOk result (λ kind. kind ≡ opaque at.now) }
+{
+    Ok(EntryKind::Opaque(at.words(alloc)?))
+}
+
+// What stands before a byte.
+fn lead_of(bytes: &[u8]) -> Lead
+    ensures { result ≡ fold lead_after Blanks bytes.now }
+{
+    let mut lead = Lead::Blanks;
+    for b in bytes {
+        lead = lead.after(*b);
+    }
+    lead
+}
+
+// Whether the whole is blanks, a symbol or a run of digits, and `:`.
+fn is_first_label(piece: &[u8]) -> bool
+    ensures { result ≡ is_first_label piece.now }
+{
+    match piece {
+        [front @ .., b':'] => lead_of(front).is_name(),
+        _ => false,
+    }
+}
+
+// The symbol that stands alone.
+fn only_word<'a>(at: &Cursor<'a>) -> Option<Word<'a>>
+    ensures { result ≡ only_word at.now }
+{
+    let (name, rest) = at.word()?;
+    if rest.is_at_end() { Some(name) } else { None }
+}
+
+fn label(alloc: Global, at: &Cursor) -> Result<EntryKind, AllocError>
+    ensures { IfOk result (λ kind. kind ≡ label_of at.now) }
+{
+    match only_word(at) {
+        Some(name) => Ok(EntryKind::Label(Name::from_slice(alloc, name.bytes())?)),
+        None => opaque(alloc, at),
+    }
+}
+
+fn blanks(bytes: &[u8]) -> usize
+    ensures value { result ≡ prefix_len is_blank bytes.now }
+    ensures bound { result ≤ length bytes.now }
+{
+    bytes.iter().take_while(|b| is_blank(**b)).count()
+}
+
+#[tactic(auto, unfolding(att_lexer::specs::Bytes::is_blank))]
+fn is_blank(b: u8) -> bool
+    ensures { result ≡ is_blank b }
+{
+    b == b' ' || b == b'\t' || b == b'\r'
+}
+
+fn without_blanks(bytes: &[u8]) -> &[u8]
+    ensures { result.now ≡ without_blanks bytes.now }
+{
+    let (_, rest) = bytes.split_at(blanks(bytes));
+    rest
+}
+
+// Whether `#APP` or `#NO_APP` stands in front.
+#[tactic(auto, unfolding(att_grammar::specs::Entries::is_inline_mark))]
+fn is_inline_mark(piece: &[u8]) -> bool
+    ensures { result ≡ is_inline_mark piece.now }
+{
+    let text = without_blanks(piece);
+    stands_first(b"#APP", text) || stands_first(b"#NO_APP", text)
+}
+
+#[tactic(auto, unfolding(att_lexer::specs::Bytes::is_symbol_byte, att_lexer::specs::Bytes::is_letter, att_lexer::specs::Bytes::is_digit))]
+fn is_symbol_byte(b: u8) -> bool
+    ensures { result ≡ is_symbol_byte b }
+{
+    (b >= b'A' && b <= b'Z')
+        || (b >= b'a' && b <= b'z')
+        || (b >= b'0' && b <= b'9')
+        || b == b'_'
+        || b == b'.'
+        || b == b'$'
+        || b >= 128
+}
+
+// Whether no symbol byte stands in front.
+fn is_apart(bytes: &[u8]) -> bool
+    ensures { result ≡ is_apart bytes.now }
+{
+    match bytes {
+        [] => true,
+        [b, ..] => !is_symbol_byte(*b),
+    }
+}
+
+// Whether bytes begin so, and no symbol byte follows.
+fn stands_first(front: &[u8], bytes: &[u8]) -> bool
+    ensures { result ≡ stands_first front.now bytes.now }
+{
+    bytes.starts_with(front) && is_apart(&bytes[front.len()..])
+}
+
+fn is_assignment(at: &Cursor) -> bool
+    ensures { result ≡ is_assignment at.now }
+{
+    let Some((_, rest)) = at.first() else {
+        return false;
+    };
+    match rest.first() {
+        Some((Seen::Mark(b), _)) => b == b'=',
+        Some((Seen::Word(_) | Seen::Number(_) | Seen::Text(_) | Seen::Odd(_), _)) | None => false,
+    }
+}
+
+// Whether a word that begins with `.` stands in front.
+fn is_directive(at: &Cursor) -> bool
+    ensures { result ≡ is_directive at.now }
+{
+    match at.first() {
+        Some((Seen::Word(name), _)) => match name {
+            [b'.', ..] => true,
+            _ => false,
+        },
+        Some((Seen::Mark(_) | Seen::Number(_) | Seen::Text(_) | Seen::Odd(_), _)) | None => false,
+    }
+}
+
+// A piece that has tokens and is no label.
+#[tactic(auto, unfolding(att_grammar::specs::Entries::statement_of))]
+fn statement(
+    alloc: Global,
+    piece: &[u8],
+    tokens: &TokenList,
+    at: &Cursor,
+) -> Result<EntryKind, AllocError>
+    requires length { length piece.now < 2 ^ 32 }
+    requires tokens { tokens.now ≡ tokens_of piece.now }
+    requires lexemes { at.now ≡ says_all piece.now tokens.now }
+    ensures { IfOk result (λ kind. kind ≡ statement_of piece.now tokens.now) }
+{
+    if is_assignment(at) || is_directive(at) {
+        return Ok(EntryKind::Directive(read_directive(alloc, piece, tokens)?));
+    }
+    match instruction(alloc, at)? {
+        Some(i) => Ok(EntryKind::Insn(i)),
+        None => opaque(alloc, at),
+    }
+}
+
+#[tactic(auto, unfolding(att_grammar::specs::Entries::kind_of_piece))]
+fn kind(alloc: Global, piece: &[u8]) -> Result<EntryKind, AllocError>
+    requires { length piece.now < 2 ^ 32 }
+    ensures { IfOk result (λ kind. kind ≡ kind_of_piece piece.now) }
+{
+    let tokens = tokens(alloc, piece)?;
+    let all = tokens.as_slice();
+    let at = Cursor::new(piece, all);
+    if is_first_label(piece) {
+        return label(alloc, &at);
+    }
+    if !all.is_empty() {
+        return statement(alloc, piece, &tokens, &at);
+    }
+    if is_inline_mark(piece) {
+        Ok(EntryKind::InlineMark)
+    } else {
+        Ok(EntryKind::Blank)
+    }
+}
+
+/// The entry that a piece is, with the serial that is given. An instruction that it is, is one of the profile.
+pub fn read_entry(alloc: Global, piece: &[u8], serial: u32) -> Result<Entry, AllocError>
+    requires { length piece.now < 2 ^ 32 }
+    ensures definition { IfOk result (λ entry. entry ≡ record { serial = serial; kind = kind_of_piece piece.now }) }
+    ensures profile { IfOk result (λ entry. IsOfProfile entry.kind) }
+{
+    let kind = kind(alloc, piece)?;
+    Ok(Entry { serial, kind })
+}

@@ -1,0 +1,15 @@
+//! The entry that a line of assembly text is.
+#![tactic(auto)]
+
+mod entries;
+mod expressions;
+mod forms;
+mod instructions;
+mod operands;
+mod registers;
+mod values;
+
+pub use entries::read_entry;
+
+#[cfg(test)]
+mod tests;
