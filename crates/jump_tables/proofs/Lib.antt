@@ -1,0 +1,4 @@
+pub mod NameLaws
+pub mod EachLaws
+pub mod UseLaws
+pub mod StartLaws

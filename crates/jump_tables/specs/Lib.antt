@@ -1,0 +1,5 @@
+pub mod Names
+pub mod Uses
+pub mod Sections
+pub mod Tables
+pub mod Collected

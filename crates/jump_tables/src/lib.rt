@@ -1,0 +1,17 @@
+//! The jump tables of a file, and what uses them.
+#![tactic(auto)]
+
+mod collect;
+mod find;
+mod symbols;
+mod table;
+mod uses;
+
+pub use collect::is_debug_name;
+pub use find::find_tables;
+pub use symbols::Symbols;
+pub use table::{Table, Tables};
+pub use uses::{names_of, names_of_insn, symbol_of, table_jump_of};
+
+#[cfg(test)]
+mod tests;

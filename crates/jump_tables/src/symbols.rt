@@ -1,0 +1,72 @@
+// Symbols by number, in the order in which they come.
+
+ghost use Rattle.std.specs.Prelude.{◌≡◌, [], OnOk, OnErr, IfOk, Some, length, ◌<◌, IfSome};
+ghost use Rattle.jump_tables.specs.Names.{has, with_name, place_of, AreDistinct};
+
+use indexmap::IndexSet;
+use std::alloc::{AllocError, Global};
+use std::marker::Model;
+
+/// A list of different symbols, in which a symbol is found by a hash. Its place in the list is its number.
+#[derive(Drop)]
+pub struct Symbols {
+    set: IndexSet<Vec<u8>>,
+}
+
+impl Model for Symbols {
+    ghost use Rattle.std.specs.Prelude.{List, ℕ, map};
+    ghost use Rattle.jump_tables.specs.Names.{AreDistinct};
+
+    ghost Value = { List (List ℕ) };
+
+    ghost view = { λ s. map (λ k. k.items) s.set.keys };
+
+    ghost invariant = { λ s. AreDistinct (map (λ k. k.items) s.set.keys) };
+}
+
+impl Symbols {
+    /// The list of no symbols.
+    pub fn new(alloc: Global) -> Symbols
+        ensures { result ≡ [] }
+    {
+        Symbols {
+            set: IndexSet::new(alloc),
+        }
+    }
+
+    /// How many there are.
+    pub fn len(&self) -> usize
+        ensures { result ≡ length self.now }
+    {
+        self.set.len()
+    }
+
+    /// The number of the symbol, if it is among them.
+    pub fn number_of(&self, name: &[u8]) -> Option<usize>
+        ensures found { result ≡ place_of name.now self.now }
+        ensures within { IfSome result (λ k. k < length self.now) }
+        ensures distinct { AreDistinct self.now }
+    {
+        self.set.get_index_of(name)
+    }
+
+    /// Whether the symbol is among them.
+    pub fn has(&self, name: &[u8]) -> bool
+        ensures { result ≡ has name.now self.now }
+    {
+        self.number_of(name).is_some()
+    }
+
+    /// The number of the symbol, which comes last where it is new. Where memory is wanting nothing changes.
+    pub fn add(&mut self, alloc: Global, name: &[u8]) -> Result<usize, AllocError>
+        ensures added { OnOk result (self.new ≡ with_name self.old name.now) }
+        ensures number { IfOk result (λ k. place_of name.now self.new ≡ Some k) }
+        ensures err { OnErr result (self.new ≡ self.old) }
+    {
+        if let Some(number) = self.number_of(name) {
+            return Ok(number);
+        }
+        let (number, _) = self.set.insert_full(Vec::from_slice(alloc, name)?)?;
+        Ok(number)
+    }
+}
