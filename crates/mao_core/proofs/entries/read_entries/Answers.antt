@@ -1,0 +1,11 @@
+use Rattle.std.proofs.Common.{◌++◌, ◌∙◌, ap, map}
+use Rattle.att_grammar.specs.Entries.{kind_of_piece}
+use Rattle.mao_core.specs.Entries.{numbered}
+use Rattle.mao_core.specs.Kept.{bytes_at}
+use Rattle.mao_core.proofs.EntryLaws.{entries_all}
+use Rattle.mao_core.proofs.entries.read_entries.Goals as goal
+
+pub loop-i-init : goal.loop-i-init
+loop-i-init c =
+    ap (λ l. l ++ numbered 1 (map kind_of_piece (map (bytes_at c.args.text.now) c.args.spans.now))) c.in_ok-entries.ensures.items
+    ∙ entries_all c.args.text.now c.args.spans.now c.requires.cut

@@ -1,0 +1,10 @@
+use Rattle.std.proofs.Common.{◌≡◌, ◌+◌, ◌++◌, drop, map}
+use Rattle.att_grammar.specs.Entries.{kind_of_piece}
+use Rattle.mao_core.specs.Entries.{numbered, entries_of}
+use Rattle.mao_core.specs.Kept.{bytes_at}
+use Rattle.mao_core.proofs.entries.read_entries.Given as goal
+
+-- the entries so far, and those of the pieces that are left, are all of them
+abbrev pub invariant-loop-i : goal.invariant-loop-i
+invariant-loop-i l =
+    l.entries.items ++ numbered (l.i + 1) (map kind_of_piece (map (bytes_at l.text) (drop l.i l.spans))) ≡ entries_of l.text

@@ -1,0 +1,5 @@
+pub mod Input
+pub mod Outcome
+pub mod Kept
+pub mod Entries
+pub mod Plain

@@ -1,0 +1,68 @@
+// The program: standard input to standard output, by the words of the command line.
+#![tactic(auto)]
+
+use mao_core::{Status, mao};
+use mao_outside::{StdSink, StdSource};
+use std::env;
+use std::process::ExitCode;
+
+// The exit status of a run whose words the runtime does not hand out.
+const NO_WORDS: u8 = 7;
+
+fn exit_of(status: Status) -> u8 {
+    match status {
+        Status::Fine => 0,
+        Status::Usage => 1,
+        Status::ReadFault => 2,
+        Status::TooBig => 3,
+        Status::NoMemory => 4,
+        Status::WriteFault => 5,
+    }
+}
+
+// What a refusal says on standard error.
+fn message_of(status: Status) -> Option<&'static str> {
+    match status {
+        Status::Fine => None,
+        Status::Usage => Some("mao: usage"),
+        Status::ReadFault => Some("mao: read fault"),
+        Status::TooBig => Some("mao: input too big"),
+        Status::NoMemory => Some("mao: out of memory"),
+        Status::WriteFault => Some("mao: write fault"),
+    }
+}
+
+fn status_of(rt: &HostRuntime, words: &[&str]) -> Status {
+    let mut source = StdSource::new(rt.stdin());
+    let mut out = StdSink::new(rt.stdout());
+    mao(rt.alloc(), words, &mut source, &mut out).status
+}
+
+fn run(rt: &HostRuntime) -> u8 {
+    let alloc = rt.alloc();
+    let Ok(args) = env::args(rt) else {
+        return NO_WORDS;
+    };
+    let Ok(texts) = args.collect::<Vec<String>>(alloc) else {
+        return exit_of(Status::NoMemory);
+    };
+    let mut words = Vec::new(alloc);
+    for text in &texts {
+        if words.push(text.as_str()).is_err() {
+            return exit_of(Status::NoMemory);
+        }
+    }
+    let status = status_of(rt, &words);
+    if let Some(message) = message_of(status) {
+        // A fault of standard error changes nothing.
+        let _ = eprintln!(rt; "{message}");
+    }
+    exit_of(status)
+}
+
+fn main(rt: HostRuntime) -> ExitCode {
+    ExitCode::from(run(&rt))
+}
+
+#[cfg(test)]
+mod tests;
