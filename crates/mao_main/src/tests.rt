@@ -1,3 +1,6 @@
+use asm_writer::{directive_text, insn_text};
+use att_reader::read_entry;
+use insn_ir::{DirectiveKind, EntryKind};
 use mao_core::{Report, Status, mao};
 use mao_outside::{MemSink, MemSource};
 use std::alloc::AllocGlobal;
@@ -129,6 +132,51 @@ fn limits_are_exact(rt: HostRuntime) -> Result<(), Fail> {
         assert_eq!(rt; report.status, status);
         let taken = if status == Status::Fine { len } else { 0 };
         assert_eq!(rt; out.taken().len(), taken);
+    }
+    Ok(())
+}
+
+// The canonical text of what a line says, or nothing where the line isn't read.
+fn canonical(rt: &(impl Abort + AllocGlobal), line: &[u8]) -> Result<Vec<u8>, Fail> {
+    assert!(rt; line.len() < 1000);
+    match read_entry(rt.alloc(), line, 1)?.kind {
+        EntryKind::Insn(insn) => Ok(insn_text(rt.alloc(), &insn)?),
+        EntryKind::Directive(DirectiveKind::Align { power, fill, max }) if power <= 12 => {
+            Ok(directive_text(rt.alloc(), power, fill, max)?)
+        }
+        _ => Ok(Vec::new(rt.alloc())),
+    }
+}
+
+#[test]
+fn lines_are_read_and_written_canonically(rt: HostRuntime) -> Result<(), Fail> {
+    let cases: [(&[u8], &[u8]); 18] = [
+        (b"\tsall %eax\n", b"shll $1, %eax"),
+        (b"\tleal (%rdi,%rsi), %eax\n", b"leal (%rdi,%rsi,1), %eax"),
+        (b"\tcmovl %ecx, %eax\n", b"cmovll %ecx, %eax"),
+        (b"\tmovq $4294967295, %rax\n", b"movabsq $4294967295, %rax"),
+        (b"\taddl $4294967295, %eax\n", b"addl $-1, %eax"),
+        (b"\timull $3, %eax\n", b"imull $3, %eax, %eax"),
+        (b"\tmovl -0x8(%rbp), %eax\n", b"movl -8(%rbp), %eax"),
+        (b"\tmovl 010(%rsp), %eax\n", b"movl 8(%rsp), %eax"),
+        (b"\tmovl 08(%rsp), %eax\n", b""),
+        (b"\tjc .L2\n", b"jb .L2"),
+        (b"\tpush %rax\n", b"pushq %rax"),
+        (b"\tcallq g\n", b"call g"),
+        (b"\t.balign 16\n", b".p2align 4"),
+        (b"\t.p2align 4,0x90\n", b".p2align 4,144"),
+        (b"\tshll $32, %eax\n", b""),
+        (b"\tpop %rsp\n", b""),
+        (b"\tmovl (%rax), (%rdx)\n", b""),
+        (
+            b"\tnotrack jmp *.L4(,%rdi,8)\n",
+            b"notrack jmp *.L4(,%rdi,8)",
+        ),
+    ];
+    for (line, wanted) in cases {
+        let text = canonical(&rt, line)?;
+        assert_eq!(rt; text.as_slice(), wanted, "{line:?}");
+        assert_eq!(rt; canonical(&rt, &text)?.as_slice(), wanted, "{line:?}");
     }
     Ok(())
 }

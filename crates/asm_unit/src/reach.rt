@@ -1,0 +1,160 @@
+// The names that a file reaches along aliases.
+
+ghost use Rattle.std.specs.Prelude.{◌≡◌, ℕ, List, map, fold, IfOk, OnOk};
+ghost use Rattle.jump_tables.specs.Sections.{Section, section_after, is_debug, placed};
+ghost use Rattle.asm_unit.specs.Aliases.{Setting, settings};
+ghost use Rattle.asm_unit.specs.Reach.{first_in, first_reaching};
+ghost use Rattle.asm_unit.specs.ReachSteps.{IsTableOf, no_marks, searching, visited, AreMarked, ReachedFrom};
+
+use crate::aliases::Aliases;
+use crate::reach_names::names_by;
+use insn_ir::{DirectiveKind, Entry, EntryKind, Name};
+use jump_tables::{Symbols, is_debug_name};
+use std::alloc::{AllocError, Global};
+use std::marker::Model;
+
+/// By which of its names an entry reaches a function or an alias of it.
+#[derive(Clone, Copy, PartialEq, Eq, Debug)]
+pub enum ReachBy {
+    /// Those of calls, jumps and opaque lines.
+    Homing,
+    /// Those that an instruction uses with an offset.
+    Offset,
+    /// Those by which data outside debug sections may reach into it.
+    Data,
+}
+
+/// Whether what follows an entry stands in a debug section, where this is so before it.
+fn debug_after(debug: bool, kind: &EntryKind) -> bool
+    ensures { (s : Section) → is_debug s ≡ debug → result ≡ is_debug (section_after s kind.now) }
+{
+    match kind {
+        EntryKind::Directive(DirectiveKind::Section { name, .. }) => is_debug_name(name.as_slice()),
+        _ => debug,
+    }
+}
+
+/// Names that a file reaches, each with the first entry that reaches it.
+#[derive(Drop)]
+pub struct Reached {
+    names: Symbols,
+    firsts: Vec<u32>,
+}
+
+impl Model for Reached {
+    ghost use Rattle.asm_unit.specs.Reach.{Marks};
+
+    ghost Value = { Marks };
+
+    ghost view = { λ r. record { names = r.names; firsts = r.firsts.items } };
+}
+
+impl Reached {
+    fn new(alloc: Global) -> Reached
+        ensures { result ≡ no_marks }
+    {
+        Reached {
+            names: Symbols::new(alloc),
+            firsts: Vec::new(alloc),
+        }
+    }
+
+    /// The serial of the first entry that reaches the name, if one does.
+    pub fn first_of(&self, name: &[u8]) -> Option<u32>
+        ensures { result ≡ first_in self.now name.now }
+    {
+        let number = self.names.number_of(name)?;
+        self.firsts.get(number).copied()
+    }
+
+    /// Marks a name, and puts it on the queue, where it is new.
+    fn visit<'a>(
+        &mut self,
+        alloc: Global,
+        queue: &mut Vec<&'a Name>,
+        serial: u32,
+        name: &'a Name,
+    ) -> Result<(), AllocError>
+        ensures { OnOk result (searching self.new (map (λ n. n.now) queue.new.items) ≡ visited serial (searching self.old (map (λ n. n.now) queue.old.items)) name.now) }
+    {
+        if self.names.number_of(name.as_slice()).is_none() {
+            self.names.add(alloc, name.as_slice())?;
+            self.firsts.push(serial)?;
+            queue.push(name)?;
+        }
+        Ok(())
+    }
+
+    fn visit_each<'a>(
+        &mut self,
+        alloc: Global,
+        queue: &mut Vec<&'a Name>,
+        serial: u32,
+        names: &[&'a Name],
+    ) -> Result<(), AllocError>
+        ensures { OnOk result (searching self.new (map (λ n. n.now) queue.new.items) ≡ fold (visited serial) (searching self.old (map (λ n. n.now) queue.old.items)) (map (λ n. n.now) names.now)) }
+    {
+        for name in names {
+            self.visit(alloc, queue, serial, name)?;
+        }
+        Ok(())
+    }
+
+    fn visit_targets<'a>(
+        &mut self,
+        alloc: Global,
+        queue: &mut Vec<&'a Name>,
+        serial: u32,
+        targets: &'a [Name],
+    ) -> Result<(), AllocError>
+        ensures { OnOk result (searching self.new (map (λ n. n.now) queue.new.items) ≡ fold (visited serial) (searching self.old (map (λ n. n.now) queue.old.items)) targets.now) }
+    {
+        for name in targets {
+            self.visit(alloc, queue, serial, name)?;
+        }
+        Ok(())
+    }
+
+    /// Marks with this serial what these names reach and nothing has reached before.
+    fn reach_from(
+        &mut self,
+        alloc: Global,
+        aliases: &Aliases,
+        serial: u32,
+        names: &[&Name],
+    ) -> Result<(), AllocError>
+        ensures { OnOk result ((ss : List Setting) → IsTableOf ss aliases.now → AreMarked ss self.old → ReachedFrom ss (map (λ n. n.now) names.now) serial self.old self.new) }
+    {
+        let mut queue = Vec::new(alloc);
+        self.visit_each(alloc, &mut queue, serial, names)?;
+        while let Some(name) = queue.pop() {
+            self.visit_targets(
+                alloc,
+                &mut queue,
+                serial,
+                aliases.targets_of(name.as_slice()),
+            )?;
+        }
+        Ok(())
+    }
+
+    /// The names that a file reaches. The work is linear in the entries, their names and the aliases.
+    pub fn in_entries(
+        alloc: Global,
+        aliases: &Aliases,
+        entries: &[Entry],
+        by: ReachBy,
+    ) -> Result<Reached, AllocError>
+        requires { IsTableOf (settings (placed entries.now)) aliases.now }
+        ensures { IfOk result (λ r. (f : List ℕ) → first_in r f ≡ first_reaching by (placed entries.now) f) }
+    {
+        let mut reached = Reached::new(alloc);
+        let mut debug = false;
+        for entry in entries {
+            debug = debug_after(debug, &entry.kind);
+            let names = names_by(alloc, by, debug, &entry.kind)?;
+            reached.reach_from(alloc, aliases, entry.serial, &names)?;
+        }
+        Ok(reached)
+    }
+}
