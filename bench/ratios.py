@@ -102,6 +102,7 @@ def main():
     texts = [
         ("GCC's form, 1 MiB", gcc_form(MIB)),
         ("GCC's form, 32 MiB", gcc_form(32 * MIB)),
+        ("GCC's form, all entries read", gcc_form(3 * MIB)),
         ("plain file, 32 MiB", plain_file(31 * MIB)),
         ("2,000,000 newlines", "\n" * 2_000_000),
     ]
@@ -122,7 +123,7 @@ def main():
             if copy:
                 line += f", {own / copy:.1f} times cat"
             if shutil.which("as"):
-                assembled = timed(["as", "-o", "/dev/null"], path, runs=1)
+                assembled = timed(["as", "-o", "/dev/null"], path, runs=2)
                 if assembled:
                     line += f", {own / assembled:.3f} times as"
             line += f", peak memory {peak_of(mao, path) / size:.1f} times the input"
