@@ -7,7 +7,6 @@ The program is built first, by `make mao`. What isn't installed is skipped.
 """
 
 import os
-import resource
 import shutil
 import subprocess
 import sys
@@ -69,7 +68,7 @@ def plain_file(size):
 
 
 def timed(command, path, runs=3):
-    """The least seconds of some runs, and the peak memory of all children so far in bytes."""
+    """The least seconds of some runs, or None where one fails."""
     best = None
     for _ in range(runs):
         with open(path, "rb") as text:
@@ -82,16 +81,17 @@ def timed(command, path, runs=3):
     return best
 
 
+PEAK = """\
+import resource, subprocess, sys
+with open(sys.argv[1], "rb") as text:
+    subprocess.run(sys.argv[2:], stdin=text, stdout=subprocess.DEVNULL, stderr=subprocess.DEVNULL)
+print(resource.getrusage(resource.RUSAGE_CHILDREN).ru_maxrss * 1024)
+"""
+
+
 def peak_of(command, path):
-    """The peak memory of one run in bytes, measured in a child of its own."""
-    pid = os.fork()
-    if pid == 0:
-        with open(path, "rb") as text:
-            subprocess.run(command, stdin=text, stdout=subprocess.DEVNULL, stderr=subprocess.DEVNULL)
-        peak = resource.getrusage(resource.RUSAGE_CHILDREN).ru_maxrss
-        os._exit(min(255, peak // 16384))
-    _, status = os.waitpid(pid, 0)
-    return os.waitstatus_to_exitcode(status) * 16384 * 1024
+    """The peak memory of one run in bytes, started from a small process: a child's peak counts its parent's memory."""
+    return int(subprocess.run([sys.executable, "-c", PEAK, path, *command], capture_output=True, text=True).stdout)
 
 
 def main():
