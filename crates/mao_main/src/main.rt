@@ -1,6 +1,10 @@
 // The program: standard input to standard output, by the words of the command line.
 #![tactic(auto)]
 
+ghost use Rattle.std.specs.Prelude.{◌≡◌, ◌↔◌, map, option_map};
+ghost use Rattle.mao_core.specs.Outcome.{IsCommand};
+ghost use Rattle.mao_main.specs.Exit.{exit_number, message_text};
+
 use mao_core::{Status, mao};
 use mao_outside::{StdSink, StdSource};
 use std::env;
@@ -9,7 +13,9 @@ use std::process::ExitCode;
 // The exit status of a run whose words the runtime does not hand out.
 const NO_WORDS: u8 = 7;
 
-fn exit_of(status: Status) -> u8 {
+fn exit_of(status: Status) -> u8
+    ensures { result ≡ exit_number status }
+{
     match status {
         Status::Fine => 0,
         Status::Usage => 1,
@@ -21,7 +27,9 @@ fn exit_of(status: Status) -> u8 {
 }
 
 // What a refusal says on standard error.
-fn message_of(status: Status) -> Option<&'static str> {
+fn message_of(status: Status) -> Option<&'static str>
+    ensures { option_map (λ text. text.now) result ≡ message_text status }
+{
     match status {
         Status::Fine => None,
         Status::Usage => Some("mao: usage"),
@@ -32,7 +40,10 @@ fn message_of(status: Status) -> Option<&'static str> {
     }
 }
 
-fn status_of(rt: &HostRuntime, words: &[&str]) -> Status {
+// The status of a run over the real streams.
+fn status_of(rt: &HostRuntime, words: &[&str]) -> Status
+    ensures { result ≡ Status.Usage ↔ (IsCommand (map (λ w. w.now) words.now) → ⊥) }
+{
     let mut source = StdSource::new(rt.stdin());
     let mut out = StdSink::new(rt.stdout());
     mao(rt.alloc(), words, &mut source, &mut out).status
