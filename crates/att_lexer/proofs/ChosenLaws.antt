@@ -1,8 +1,8 @@
 -- Pieces of a text, some of them left out, are the pieces of what they make together.
-use Rattle.std.proofs.Common.{◌≡◌, ℕ, ◌+◌, ◌<◌, Bool, true, false, cond, List, [], ◌∷◌, length, ap, sym, ◌∙◌}
+use Rattle.std.proofs.Common.{◌≡◌, ℕ, ◌+◌, ◌<◌, Bool, true, false, cond, List, [], ◌∷◌, length}
 use Rattle.std.specs.List.{concat}
 use Rattle.att_lexer.specs.Scan.{at_start}
-use Rattle.att_lexer.specs.Pieces.{pieces, pieces_from}
+use Rattle.att_lexer.specs.Pieces.{pieces}
 use Rattle.att_lexer.specs.Chosen.{chosen}
 use Rattle.att_lexer.proofs.PiecesLaws.{PiecesFrom, NoneFrom, ends_from, pieces_are, only}
 

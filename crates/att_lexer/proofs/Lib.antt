@@ -4,4 +4,7 @@ pub mod PiecesLaws
 pub mod Numbers
 pub mod TokensLaws
 pub mod ChosenLaws
-pub mod Quiet
+pub mod Walk
+pub mod Vectors
+pub mod Tables
+pub mod Fronts

@@ -23,6 +23,15 @@ is_symbol_start b = is_symbol_byte b && not (is_digit b) && not (b == 36)
 unfoldable pub is_freeze_byte : ℕ → Bool
 is_freeze_byte b = b == 39 || b == 47 || b == 96 || b == 92
 
--- a byte that neither ends a statement nor begins a string or a comment nor keeps a file as it is
-unfoldable pub is_quiet : ℕ → Bool
-is_quiet b = not (b == 10 || b == 59 || b == 34 || b == 35 || is_freeze_byte b)
+-- a byte that may end a piece, begin a string or a comment, or keep a file as it is
+unfoldable pub is_stop : ℕ → Bool
+is_stop b = b == 10 || b == 58 || b == 59 || b == 34 || b == 35 || is_freeze_byte b
+
+abbrev pub is_calm : ℕ → Bool
+is_calm b = not (is_stop b)
+
+abbrev pub is_one_of : ℕ → ℕ → ℕ → ℕ → Bool
+is_one_of x y z b = b == x || b == y || b == z
+
+abbrev pub is_none_of : ℕ → ℕ → ℕ → ℕ → Bool
+is_none_of x y z b = not (is_one_of x y z b)

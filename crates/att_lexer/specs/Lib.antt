@@ -3,3 +3,4 @@ pub mod Scan
 pub mod Pieces
 pub mod Tokens
 pub mod Chosen
+pub mod Walk

@@ -1,7 +1,7 @@
 -- Where a byte of a piece stands: in a string, in a comment, behind what may be a first label (GNU as manual, "Strings",
 -- "Comments", "Labels").
-use Rattle.std.specs.Prelude.{ℕ, List, Bool, true, false, ◌==◌, ◌||◌, ◌&&◌, if◌then◌else◌}
-use Rattle.std.specs.List.{fold}
+use Rattle.std.specs.Prelude.{ℕ, List, [], ◌∷◌, Bool, true, false, ◌==◌, ◌||◌, ◌&&◌, if◌then◌else◌}
+use Rattle.std.specs.List.{fold, list_all}
 use Rattle.att_lexer.specs.Bytes.{is_blank, is_digit, is_symbol_byte, is_symbol_start}
 use Rattle.att_lexer.specs.declared.scan.Place.{Place}
 use Rattle.att_lexer.specs.declared.scan.Place.TheVariants.{Plain, InString, Escaped, InComment}
@@ -56,6 +56,11 @@ scan_of bytes = fold after at_start bytes
 -- whether a byte that stands there ends the piece: a newline, a `;` outside strings and comments, the `:` of a first label
 unfoldable pub ends : Scan → ℕ → Bool
 ends s b = b == 10 || (b == 59 && is_plain s.place) || (b == 58 && is_name s.lead)
+
+-- a symbol or a run of digits, byte by byte
+abbrev pub is_named : List ℕ → Bool
+is_named [] = false
+is_named (b ∷ bs) = if is_symbol_start b then list_all is_symbol_byte bs else (is_digit b && list_all is_digit bs)
 
 -- outside strings and comments, behind what can be no first label
 abbrev pub still : Scan

@@ -2,6 +2,7 @@
 #![tactic(auto)]
 
 mod bytes;
+mod lanes;
 mod pieces;
 mod scan;
 mod token;
@@ -10,7 +11,7 @@ pub use pieces::{
     CutFault, CutFreeze, Pieces, Span, SpanList, cut_pieces, pieces_of_a_text, pieces_that_are_left,
 };
 pub use scan::{Lead, Place, Scan};
-pub use token::{Token, TokenKind, TokenList, tokens};
+pub use token::{Token, TokenKind, TokenList, is_first_label, take_tokens, tokens};
 
 #[cfg(test)]
 mod tests;

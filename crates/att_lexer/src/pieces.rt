@@ -1,13 +1,15 @@
 // A text cut into its pieces.
-ghost use Rattle.std.specs.Prelude.{◌≡◌, ◌&&◌, ◌<◌, ◌≤◌, ℕ, Bool, List, [], ◌∷◌, ◌++◌, length, take, drop, IsTrue, IfOk, IfErr, OnOk, OnErr, None};
+ghost use Rattle.std.specs.Prelude.{◌≡◌, ◌&&◌, ◌+◌, ◌<◌, ◌≤◌, ℕ, Bool, List, [], ◌∷◌, ◌++◌, length, take, drop, IsTrue, IfOk, IfErr, OnOk, OnErr, None};
 ghost use Rattle.std.specs.List.{concat, prefix_len};
-ghost use Rattle.att_lexer.specs.Bytes.{is_freeze_byte, is_quiet};
-ghost use Rattle.att_lexer.specs.Scan.{is_still, is_plain};
+ghost use Rattle.att_lexer.specs.Bytes.{is_freeze_byte};
+ghost use Rattle.att_lexer.specs.Scan.{is_plain, ends};
+ghost use Rattle.att_lexer.specs.Walk.{past, front_scan, found_at, found_in_all, is_passed, IsFront, IsThawed};
 ghost use Rattle.att_lexer.specs.Chosen.{chosen};
 ghost use Rattle.att_lexer.specs.Pieces.{ArePieces, pieces, spans_of, freeze_of, first_freeze, at_serial, IsCauseOf};
 
-use crate::bytes::{is_freeze_byte, is_quiet};
-use crate::scan::{Place, Scan};
+use crate::bytes::is_freeze_byte;
+use crate::lanes::{hit_from, stop_from};
+use crate::scan::{Place, is_label_front};
 use std::alloc::{AllocError, Global};
 use std::marker::Model;
 
@@ -87,49 +89,18 @@ pub enum CutFault {
     NoMemory,
 }
 
-// How many bytes in front are quiet.
-fn quiet_len(bytes: &[u8]) -> usize
-    ensures value { result ≡ prefix_len is_quiet bytes.now }
-    ensures bound { result ≤ length bytes.now }
-{
-    bytes.iter().take_while(|b| is_quiet(**b)).count()
+// The first piece of a text: how long it is, and the first byte of it that keeps a file as it is.
+struct Cut {
+    len: usize,
+    freeze: Option<u8>,
 }
 
-// How many bytes in front neither end the piece nor change where the next one stands.
-fn passed_len(scan: Scan, rest: &[u8]) -> usize
-    ensures quiet { 0 < result → IsTrue (is_still scan) × (result ≤ prefix_len is_quiet rest.now) }
-    ensures bound { result ≤ length rest.now }
+// Whether a byte ends the piece behind bytes that are no stops.
+#[tactic(auto, unfolding(crate::specs::Scan::ends))]
+fn ends_front(front: &[u8], b: u8) -> bool
+    ensures { result ≡ ends (front_scan front.now) b }
 {
-    if scan.is_still() { quiet_len(rest) } else { 0 }
-}
-
-// The length of the first piece.
-fn piece_len(text: &[u8]) -> usize
-    requires { 0 < length text.now }
-    ensures some { 0 < result }
-    ensures in_range { result ≤ length text.now }
-    ensures first { pieces text.now ≡ take result text.now ∷ pieces (drop result text.now) }
-{
-    let mut scan = Scan::at_start();
-    let mut i = 0;
-    while i < text.len() {
-        let b = text[i];
-        if scan.ends(b) {
-            return i + 1;
-        }
-        scan = scan.after(b);
-        i += 1;
-        i += passed_len(scan, &text[i..]);
-    }
-    text.len()
-}
-
-// How many bytes in front are quiet, outside strings and comments.
-fn skipped_len(place: Place, rest: &[u8]) -> usize
-    ensures quiet { 0 < result → IsTrue (is_plain place) × (result ≤ prefix_len is_quiet rest.now) }
-    ensures bound { result ≤ length rest.now }
-{
-    if place.is_plain() { quiet_len(rest) } else { 0 }
+    b == b'\n' || b == b';' || (b == b':' && is_label_front(front))
 }
 
 // Whether a byte that stands there keeps a file as it is.
@@ -139,26 +110,111 @@ fn freezes(place: Place, b: u8) -> bool
     place.is_plain() && is_freeze_byte(b)
 }
 
-// The first byte of a piece that keeps a file as it is.
-fn freeze_of(piece: &[u8]) -> Option<u8>
-    ensures { result ≡ freeze_of piece.now }
+// What was found first, where a byte more stands there.
+fn found_at(found: Option<u8>, place: Place, b: u8) -> Option<u8>
+    ensures { result ≡ found_at found place b }
 {
-    let mut place = Place::Plain;
-    let mut i = 0;
-    while i < piece.len() {
-        let b = piece[i];
-        if freezes(place, b) {
-            return Some(b);
-        }
-        place = place.after(b);
-        i += 1;
-        i += skipped_len(place, &piece[i..]);
+    match found {
+        Some(_) => found,
+        None => { if freezes(place, b) { Some(b) } else { None } }
     }
-    if place.is_open() { Some(b'"') } else { None }
+}
+
+// What was found, or `"` where a string is open at the end.
+fn found_in_all(found: Option<u8>, place: Place) -> Option<u8>
+    ensures { result ≡ found_in_all found place }
+{
+    match found {
+        Some(_) => found,
+        None => { if place.is_open() { Some(b'"') } else { None } }
+    }
+}
+
+// Whether a byte ends the piece behind what can be no first label.
+#[tactic(auto, unfolding(crate::specs::Scan::ends))]
+fn ends_at(place: Place, b: u8) -> bool
+    ensures { result ≡ ends (past place) b }
+{
+    b == b'\n' || (b == b';' && place.is_plain())
+}
+
+// Where the next byte stands that ends the piece, keeps a file as it is or changes the place, or a byte before it.
+#[inline]
+fn passed(place: Place, text: &[u8], from: usize) -> usize
+    requires { from ≤ length text.now }
+    ensures value { result ≡ from + prefix_len (is_passed place) (drop from text.now) }
+    ensures bound { result ≤ length text.now }
+{
+    match place {
+        Place::Plain => stop_from(text, from),
+        Place::InString => hit_from(text, from, b'\n', b'"', b'\\'),
+        Place::Escaped => from,
+        Place::InComment => hit_from(text, from, b'\n', b'\n', b'\n'),
+    }
+}
+
+// The first piece, of which the bytes before a place have no end and are no label.
+fn cut_on(text: &[u8], from: usize, place: Place, found: Option<u8>) -> Cut
+    requires some { 0 < from }
+    requires within { from ≤ length text.now }
+    requires front { IsFront text.now from (past place) }
+    requires thawed { IsThawed text.now from place found }
+    ensures some { 0 < result.len }
+    ensures in_range { result.len ≤ length text.now }
+    ensures first { pieces text.now ≡ take result.len text.now ∷ pieces (drop result.len text.now) }
+    ensures freeze { result.freeze ≡ freeze_of (take result.len text.now) }
+{
+    let mut place = place;
+    let mut found = found;
+    let mut at = passed(place, text, from);
+    while at < text.len() {
+        let b = text[at];
+        let ended = ends_at(place, b);
+        found = found_at(found, place, b);
+        place = place.after(b);
+        at += 1;
+        if ended {
+            return Cut {
+                len: at,
+                freeze: found_in_all(found, place),
+            };
+        }
+        at = passed(place, text, at);
+    }
+    Cut {
+        len: at,
+        freeze: found_in_all(found, place),
+    }
+}
+
+// The first piece, in one walk.
+fn first_cut(text: &[u8]) -> Cut
+    requires { 0 < length text.now }
+    ensures some { 0 < result.len }
+    ensures in_range { result.len ≤ length text.now }
+    ensures first { pieces text.now ≡ take result.len text.now ∷ pieces (drop result.len text.now) }
+    ensures freeze { result.freeze ≡ freeze_of (take result.len text.now) }
+{
+    let front = stop_from(text, 0);
+    if front == text.len() {
+        return Cut {
+            len: front,
+            freeze: None,
+        };
+    }
+    let b = text[front];
+    if ends_front(&text[..front], b) {
+        return Cut {
+            len: front + 1,
+            freeze: None,
+        };
+    }
+    let found = found_at(None, Place::Plain, b);
+    cut_on(text, front + 1, Place::Plain.after(b), found)
 }
 
 /// Cuts a text of at most 33,554,432 bytes into its pieces (GNU as manual, "Statements"; cutting behind a first label
-/// and the limits are this project's own). The text is walked twice.
+/// and the limits are this project's own). The text is walked once.
 #[tactic(auto, using(crate::proofs::Cutting::pieces_all, crate::proofs::Cutting::pieces_some, crate::proofs::PiecesLaws::are_pieces))]
 pub fn cut_pieces(alloc: Global, text: &[u8]) -> Result<Pieces, CutFault>
     requires { length text.now ≤ 33554432 }
@@ -179,9 +235,9 @@ pub fn cut_pieces(alloc: Global, text: &[u8]) -> Result<Pieces, CutFault>
             });
         }
         let rest = &text[at..];
-        let len = piece_len(rest);
+        let Cut { len, freeze: byte } = first_cut(rest);
         if freeze.is_none() {
-            freeze = freeze_at(count as u32 + 1, &rest[..len]);
+            freeze = freeze_at(count as u32 + 1, byte);
         }
         let span = Span {
             start: at as u32,
@@ -195,11 +251,13 @@ pub fn cut_pieces(alloc: Global, text: &[u8]) -> Result<Pieces, CutFault>
     Ok(Pieces { spans, freeze })
 }
 
-fn freeze_at(serial: u32, piece: &[u8]) -> Option<CutFreeze>
-    ensures { result ≡ at_serial serial (freeze_of piece.now) None }
+fn freeze_at(serial: u32, byte: Option<u8>) -> Option<CutFreeze>
+    ensures { result ≡ at_serial serial byte None }
 {
-    let byte = freeze_of(piece)?;
-    Some(CutFreeze { serial, byte })
+    Some(CutFreeze {
+        serial,
+        byte: byte?,
+    })
 }
 
 /// Each text has its pieces, and no others.

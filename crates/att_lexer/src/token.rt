@@ -1,13 +1,11 @@
 // A piece cut into its tokens.
 ghost use Rattle.std.specs.Prelude.{◌≡◌, ◌<◌, ◌≤◌, ◌+◌, ◌-◌, ◌^◌, ◌==◌, ℕ, List, [], ◌∷◌, ◌++◌, length, take, drop, IfOk, OnOk, OnErr, slice_index, false};
-ghost use Rattle.std.specs.List.{fold, prefix_len};
+ghost use Rattle.std.specs.List.{prefix_len};
 ghost use Rattle.att_lexer.specs.Bytes.{is_symbol_byte};
-ghost use Rattle.att_lexer.specs.Scan.{lead_after};
-ghost use Rattle.att_lexer.specs.declared.scan.Lead.TheVariants.{Blanks};
-ghost use Rattle.att_lexer.specs.Tokens.{digit_of, number_in, number_of, run_token, text_len, token_of, ends_tokens, tokens_from, counted, tokens_of, AreInOrder};
+ghost use Rattle.att_lexer.specs.Tokens.{digit_of, number_in, number_of, run_token, text_len, token_of, ends_tokens, tokens_from, is_first_label, counted, tokens_of, AreInOrder};
 
 use crate::bytes::{is_blank, is_digit, is_symbol_byte};
-use crate::scan::Lead;
+use crate::scan::is_label_front;
 use std::alloc::{AllocError, Global};
 use std::marker::Model;
 
@@ -35,6 +33,9 @@ pub struct Token {
     pub value: u64,
 }
 
+// For how many tokens room is made at first: few lines have more.
+const ROOM: usize = 16;
+
 /// A list of tokens, seen by contracts as a list.
 #[derive(Drop)]
 pub struct TokenList {
@@ -60,11 +61,21 @@ impl TokenList {
         }
     }
 
+    /// Lets all tokens go, and keeps the room.
+    pub fn clear(&mut self)
+        ensures { self.new ≡ [] }
+    {
+        self.items.clear();
+    }
+
     /// Appends `x`, or changes nothing where memory is wanting.
     pub fn push(&mut self, x: Token) -> Result<(), AllocError>
         ensures ok { OnOk result (self.new ≡ self.old ++ x ∷ []) }
         ensures err { OnErr result (self.new ≡ self.old) }
     {
+        if self.items.is_empty() {
+            self.items.reserve(ROOM)?;
+        }
         self.items.push(x)?;
         Ok(())
     }
@@ -152,23 +163,25 @@ fn text_len(bytes: &[u8]) -> usize
     bytes.len()
 }
 
-fn lead_of(bytes: &[u8]) -> Lead
-    ensures { result ≡ fold lead_after Blanks bytes.now }
+/// Whether the whole is blanks, a symbol or a run of digits, and `:`.
+#[inline]
+pub fn is_first_label(piece: &[u8]) -> bool
+    ensures { result ≡ is_first_label piece.now }
 {
-    let mut lead = Lead::Blanks;
-    for b in bytes {
-        lead = lead.after(*b);
+    match piece {
+        [front @ .., b':'] => is_label_front(front),
+        _ => false,
     }
-    lead
 }
 
 // All but the `:` of a first label.
 fn counted(piece: &[u8]) -> &[u8]
     ensures { result.now ≡ counted piece.now }
 {
-    match piece {
-        [front @ .., b':'] if lead_of(front).is_name() => front,
-        _ => piece,
+    if is_first_label(piece) {
+        &piece[..piece.len() - 1]
+    } else {
+        piece
     }
 }
 
@@ -232,15 +245,16 @@ fn ends_tokens(b: u8) -> bool
     b == b'\n' || b == b';' || b == b'#'
 }
 
-/// The tokens of a piece of fewer than 2^32 bytes, in order, in one walk. What follows a newline or a `;` outside
-/// strings and comments doesn't count; nor do comments.
-pub fn tokens(alloc: Global, piece: &[u8]) -> Result<TokenList, AllocError>
+/// Takes the tokens of a piece of fewer than 2^32 bytes, in order, in one walk, in place of those that the list has: its
+/// room is kept from piece to piece. What follows a newline or a `;` outside strings and comments doesn't count; nor do
+/// comments. Where memory is wanting, the list has some tokens in front.
+pub fn take_tokens(out: &mut TokenList, piece: &[u8]) -> Result<(), AllocError>
     requires { length piece.now < 2 ^ 32 }
-    ensures tokens { IfOk result (λ ts. ts ≡ tokens_of piece.now) }
-    ensures in_order { IfOk result (λ ts. AreInOrder 0 (length piece.now) ts) }
+    ensures tokens { OnOk result (out.new ≡ tokens_of piece.now) }
+    ensures in_order { OnOk result (AreInOrder 0 (length piece.now) out.new) }
 {
     let text = counted(piece);
-    let mut out = TokenList::new(alloc);
+    out.clear();
     let mut at = 0;
     while at < text.len() && !ends_tokens(text[at]) {
         if is_blank(text[at]) {
@@ -251,5 +265,16 @@ pub fn tokens(alloc: Global, piece: &[u8]) -> Result<TokenList, AllocError>
             at += token.len as usize;
         }
     }
+    Ok(())
+}
+
+/// The tokens of a piece, as [`take_tokens`] takes them.
+pub fn tokens(alloc: Global, piece: &[u8]) -> Result<TokenList, AllocError>
+    requires { length piece.now < 2 ^ 32 }
+    ensures tokens { IfOk result (λ ts. ts ≡ tokens_of piece.now) }
+    ensures in_order { IfOk result (λ ts. AreInOrder 0 (length piece.now) ts) }
+{
+    let mut out = TokenList::new(alloc);
+    take_tokens(&mut out, piece)?;
     Ok(out)
 }

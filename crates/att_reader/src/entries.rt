@@ -1,47 +1,20 @@
 // The entry that a piece is.
-ghost use Rattle.std.specs.Prelude.{◌≡◌, ◌<◌, ◌≤◌, ◌^◌, length, IfOk};
-ghost use Rattle.std.specs.List.{fold, prefix_len};
+ghost use Rattle.std.specs.Prelude.{◌≡◌, ◌<◌, ◌≤◌, ◌^◌, length, IfOk, ◌++◌, ◌∷◌, [], OnOk};
+ghost use Rattle.std.specs.List.{prefix_len};
 ghost use Rattle.att_lexer.specs.Bytes.{is_blank, is_symbol_byte};
-ghost use Rattle.att_lexer.specs.Scan.{lead_after};
-ghost use Rattle.att_lexer.specs.Tokens.{is_first_label, tokens_of};
-ghost use Rattle.att_lexer.specs.declared.scan.Lead.TheVariants.{Blanks};
+ghost use Rattle.att_lexer.specs.Tokens.{tokens_of};
 ghost use Rattle.att_grammar.specs.Lexemes.{says_all};
 ghost use Rattle.att_grammar.specs.Directives.{is_assignment};
-ghost use Rattle.att_grammar.specs.Entries.{opaque, only_word, label_of, without_blanks, is_apart, stands_first, is_inline_mark, is_directive, insn_or_opaque, statement_of, unlabelled, kind_of_piece, IsOfProfile};
+ghost use Rattle.att_reader.specs.Made.{entry};
+ghost use Rattle.att_grammar.specs.Entries.{only_word, label_of, without_blanks, is_apart, stands_first, is_inline_mark, is_directive, insn_or_opaque, statement_of, unlabelled, kind_of_piece, IsOfProfile};
 
 use crate::instructions::instruction;
+use crate::opaque::opaque;
 use att_grammar::{Cursor, Seen, Word};
-use att_lexer::{Lead, TokenList, tokens};
+use att_lexer::{TokenList, is_first_label, take_tokens};
 use directive_model::read_directive;
 use insn_ir::{Entry, EntryKind, Name};
 use std::alloc::{AllocError, Global};
-
-fn opaque(alloc: Global, at: &Cursor) -> Result<EntryKind, AllocError>
-    ensures { IfOk result (λ kind. kind ≡ opaque at.now) }
-{
-    Ok(EntryKind::Opaque(at.words(alloc)?))
-}
-
-// What stands before a byte.
-fn lead_of(bytes: &[u8]) -> Lead
-    ensures { result ≡ fold lead_after Blanks bytes.now }
-{
-    let mut lead = Lead::Blanks;
-    for b in bytes {
-        lead = lead.after(*b);
-    }
-    lead
-}
-
-// Whether the whole is blanks, a symbol or a run of digits, and `:`.
-fn is_first_label(piece: &[u8]) -> bool
-    ensures { result ≡ is_first_label piece.now }
-{
-    match piece {
-        [front @ .., b':'] => lead_of(front).is_name(),
-        _ => false,
-    }
-}
 
 // The symbol that stands alone.
 fn only_word<'a>(at: &Cursor<'a>) -> Option<Word<'a>>
@@ -51,12 +24,20 @@ fn only_word<'a>(at: &Cursor<'a>) -> Option<Word<'a>>
     if rest.is_at_end() { Some(name) } else { None }
 }
 
-fn label(alloc: Global, at: &Cursor) -> Result<EntryKind, AllocError>
-    ensures { IfOk result (λ kind. kind ≡ label_of at.now) }
+fn label(alloc: Global, out: &mut Vec<Entry>, serial: u32, at: &Cursor) -> Result<(), AllocError>
+    requires room { out.old.len < out.old.cap }
+    ensures { OnOk result (out.new.items ≡ out.old.items ++ entry serial (label_of at.now) ∷ []) }
 {
     match only_word(at) {
-        Some(name) => Ok(EntryKind::Label(Name::from_slice(alloc, name.bytes())?)),
-        None => opaque(alloc, at),
+        Some(name) => {
+            let name = Name::from_slice(alloc, name.bytes())?;
+            out.push_reserved(Entry {
+                serial,
+                kind: EntryKind::Label(name),
+            });
+            Ok(())
+        }
+        None => opaque(alloc, out, serial, at),
     }
 }
 
@@ -146,45 +127,102 @@ fn is_directive(at: &Cursor) -> bool
 }
 
 // A piece that has tokens and is no label.
+#[inline(always)]
 #[tactic(auto, unfolding(att_grammar::specs::Entries::statement_of))]
 fn statement(
     alloc: Global,
+    out: &mut Vec<Entry>,
+    serial: u32,
     piece: &[u8],
     tokens: &TokenList,
     at: &Cursor,
-) -> Result<EntryKind, AllocError>
+) -> Result<(), AllocError>
     requires length { length piece.now < 2 ^ 32 }
     requires tokens { tokens.now ≡ tokens_of piece.now }
     requires lexemes { at.now ≡ says_all piece.now tokens.now }
-    ensures { IfOk result (λ kind. kind ≡ statement_of piece.now tokens.now) }
+    requires room { out.old.len < out.old.cap }
+    ensures { OnOk result (out.new.items ≡ out.old.items ++ entry serial (statement_of piece.now tokens.now) ∷ []) }
 {
     if is_assignment(at) || is_directive(at) {
-        return Ok(EntryKind::Directive(read_directive(alloc, piece, tokens)?));
+        let kind = read_directive(alloc, piece, tokens)?;
+        out.push_reserved(Entry {
+            serial,
+            kind: EntryKind::Directive(kind),
+        });
+        return Ok(());
     }
-    match instruction(alloc, at)? {
-        Some(i) => Ok(EntryKind::Insn(i)),
-        None => opaque(alloc, at),
-    }
+    instruction(alloc, out, serial, at)
 }
 
 #[tactic(auto, unfolding(att_grammar::specs::Entries::kind_of_piece))]
-fn kind(alloc: Global, piece: &[u8]) -> Result<EntryKind, AllocError>
-    requires { length piece.now < 2 ^ 32 }
-    ensures { IfOk result (λ kind. kind ≡ kind_of_piece piece.now) }
+fn line(
+    alloc: Global,
+    tokens: &mut TokenList,
+    piece: &[u8],
+    out: &mut Vec<Entry>,
+    serial: u32,
+) -> Result<(), AllocError>
+    requires length { length piece.now < 2 ^ 32 }
+    requires room { out.old.len < out.old.cap }
+    ensures { OnOk result (out.new.items ≡ out.old.items ++ entry serial (kind_of_piece piece.now) ∷ []) }
 {
-    let tokens = tokens(alloc, piece)?;
+    take_tokens(tokens, piece)?;
     let all = tokens.as_slice();
     let at = Cursor::new(piece, all);
     if is_first_label(piece) {
-        return label(alloc, &at);
+        return label(alloc, out, serial, &at);
     }
     if !all.is_empty() {
-        return statement(alloc, piece, &tokens, &at);
+        return statement(alloc, out, serial, piece, tokens, &at);
     }
-    if is_inline_mark(piece) {
-        Ok(EntryKind::InlineMark)
+    let kind = if is_inline_mark(piece) {
+        EntryKind::InlineMark
     } else {
-        Ok(EntryKind::Blank)
+        EntryKind::Blank
+    };
+    out.push_reserved(Entry { serial, kind });
+    Ok(())
+}
+
+/// Reads entries one after another, and keeps the room for the tokens of a line.
+#[derive(Drop)]
+pub struct EntryReader {
+    tokens: TokenList,
+}
+
+impl EntryReader {
+    /// A reader without room, which it takes at the first line that has a token.
+    pub fn new(alloc: Global) -> EntryReader {
+        EntryReader {
+            tokens: TokenList::new(alloc),
+        }
+    }
+
+    /// Appends the entry that a piece is, as [`read_entry`] gives it: it is made where it is to stay. After an `Err` the
+    /// reader may be used again.
+    pub fn read_onto(
+        &mut self,
+        alloc: Global,
+        out: &mut Vec<Entry>,
+        piece: &[u8],
+        serial: u32,
+    ) -> Result<(), AllocError>
+        requires { length piece.now < 2 ^ 32 }
+        ensures { OnOk result (out.new.items ≡ out.old.items ++ entry serial (kind_of_piece piece.now) ∷ []) }
+    {
+        out.reserve(1)?;
+        line(alloc, &mut self.tokens, piece, out, serial)
+    }
+
+    /// The entry that a piece is, as [`read_entry`] gives it. After an `Err` the reader may be used again.
+    pub fn read(&mut self, alloc: Global, piece: &[u8], serial: u32) -> Result<Entry, AllocError>
+        requires { length piece.now < 2 ^ 32 }
+        ensures definition { IfOk result (λ entry. entry ≡ record { serial = serial; kind = kind_of_piece piece.now }) }
+        ensures profile { IfOk result (λ entry. IsOfProfile entry.kind) }
+    {
+        let mut made = Vec::with_capacity(alloc, 1)?;
+        self.read_onto(alloc, &mut made, piece, serial)?;
+        Ok(made.take_last())
     }
 }
 
@@ -194,6 +232,5 @@ pub fn read_entry(alloc: Global, piece: &[u8], serial: u32) -> Result<Entry, All
     ensures definition { IfOk result (λ entry. entry ≡ record { serial = serial; kind = kind_of_piece piece.now }) }
     ensures profile { IfOk result (λ entry. IsOfProfile entry.kind) }
 {
-    let kind = kind(alloc, piece)?;
-    Ok(Entry { serial, kind })
+    EntryReader::new(alloc).read(alloc, piece, serial)
 }

@@ -1,70 +1,64 @@
 // Instructions: a mnemonic and its operands.
-ghost use Rattle.std.specs.Prelude.{◌≡◌, IfOk};
+ghost use Rattle.std.specs.Prelude.{◌≡◌, ◌&&◌, [], ◌∷◌, IfOk, option_map, bytes_eq, codes, ◌<◌, ◌++◌, OnOk};
+ghost use Rattle.insn_ir.specs.Mnemonics.{has_width};
+ghost use Rattle.att_grammar.specs.Notions.{or_else, is_among};
+ghost use Rattle.att_reader.specs.Made.{entry_of};
 ghost use Rattle.insn_ir.specs.declared.op.Op.{Op};
-ghost use Rattle.att_grammar.specs.Instructions.{read_as, read_by, register_width, last_width, width_of, plain_of, is_direct, lone_symbol, lone_operand, behind_notrack, target_of, starred_of, star_op, jump_of, notrack_of, rep_of, prefixed_of, instruction_of};
+ghost use Rattle.att_grammar.specs.Instructions.{has_operands, insn_of, read_as, read_by, register_width, last_width, width_of, plain_of, is_direct, lone_symbol, lone_operand, behind_notrack, target_of, starred_of, star_op, jump_of, notrack_of, rep_of, prefixed_of, instruction_of};
 
 use crate::expressions::symbol;
 use crate::forms::has_operands;
+use crate::opaque::opaque;
 use crate::operands::{operand, operands};
-use crate::values::{atom, insn};
+use crate::values::{insn, jump_to};
 use att_grammar::{Cursor, Operand, Operands, Symbol};
-use insn_ir::{Arg, Insn, MnemonicHit, Op, Width, has_width, op_of_mnemonic};
+use insn_ir::{Entry, MnemonicHit, Op, Width, has_width, op_of_mnemonic};
 use std::alloc::{AllocError, Global};
 
-// An operation, where it has the width and the operands.
-fn read_as(
-    alloc: Global,
-    op: Op,
-    width: Width,
-    operands: &Operands,
-) -> Result<Option<Insn>, AllocError>
-    ensures { IfOk result (λ i. i ≡ read_as op width operands.now) }
+// Whether an operation has the width and the operands.
+fn reads(op: Op, width: Width, operands: &Operands) -> bool
+    ensures { result ≡ (has_width op width && has_operands op width operands.now) }
 {
-    if has_width(op, width) && has_operands(op, width, operands) {
-        Ok(Some(insn(alloc, op, width, operands)?))
+    has_width(op, width) && has_operands(op, width, operands)
+}
+
+// The first of two operations that has the width and the operands.
+fn first_of(op: Op, other: Op, width: Width, operands: &Operands) -> Option<Op>
+    ensures { option_map (λ o. insn_of o width operands.now) result ≡ or_else (read_as op width operands.now) (read_as other width operands.now) }
+{
+    if reads(op, width, operands) {
+        Some(op)
+    } else if reads(other, width, operands) {
+        Some(other)
     } else {
-        Ok(None)
+        None
     }
 }
 
-fn read_move(alloc: Global, width: Width, operands: &Operands) -> Result<Option<Insn>, AllocError>
-    ensures { IfOk result (λ i. i ≡ read_by Op.Mov width operands.now) }
+fn product(width: Width, operands: &Operands) -> Option<Op>
+    ensures { option_map (λ o. insn_of o width operands.now) result ≡ read_by Op.Imul1 width operands.now }
 {
-    match read_as(alloc, Op::Mov, width, operands)? {
-        Some(i) => Ok(Some(i)),
-        None => read_as(alloc, Op::Movabs, width, operands),
+    if reads(Op::Imul1, width, operands) {
+        Some(Op::Imul1)
+    } else {
+        first_of(Op::Imul2, Op::Imul3, width, operands)
     }
-}
-
-fn read_product(
-    alloc: Global,
-    width: Width,
-    operands: &Operands,
-) -> Result<Option<Insn>, AllocError>
-    ensures { IfOk result (λ i. i ≡ read_by Op.Imul1 width operands.now) }
-{
-    if let Some(i) = read_as(alloc, Op::Imul1, width, operands)? {
-        return Ok(Some(i));
-    }
-    if let Some(i) = read_as(alloc, Op::Imul2, width, operands)? {
-        return Ok(Some(i));
-    }
-    read_as(alloc, Op::Imul3, width, operands)
 }
 
 // The first operation of a name that has the width and the operands.
-fn read_by(
-    alloc: Global,
-    op: Op,
-    width: Width,
-    operands: &Operands,
-) -> Result<Option<Insn>, AllocError>
-    ensures { IfOk result (λ i. i ≡ read_by op width operands.now) }
+fn chosen(op: Op, width: Width, operands: &Operands) -> Option<Op>
+    ensures { option_map (λ o. insn_of o width operands.now) result ≡ read_by op width operands.now }
 {
     match op {
-        Op::Mov => read_move(alloc, width, operands),
-        Op::Imul1 => read_product(alloc, width, operands),
-        _ => read_as(alloc, op, width, operands),
+        Op::Mov => first_of(Op::Mov, Op::Movabs, width, operands),
+        Op::Imul1 => product(width, operands),
+        _ => {
+            if reads(op, width, operands) {
+                Some(op)
+            } else {
+                None
+            }
+        }
     }
 }
 
@@ -112,16 +106,29 @@ fn width_of(hit: MnemonicHit, operands: &Operands) -> Option<Width>
     }
 }
 
+#[inline(always)]
 #[tactic(auto, unfolding(att_grammar::specs::Instructions::plain_of))]
-fn plain(alloc: Global, hit: MnemonicHit, at: &Cursor) -> Result<Option<Insn>, AllocError>
-    ensures { IfOk result (λ i. i ≡ plain_of hit at.now) }
+fn plain(
+    alloc: Global,
+    out: &mut Vec<Entry>,
+    serial: u32,
+    hit: MnemonicHit,
+    at: &Cursor,
+    whole: &Cursor,
+) -> Result<(), AllocError>
+    requires room { out.old.len < out.old.cap }
+    ensures { OnOk result (out.new.items ≡ out.old.items ++ entry_of serial (plain_of hit at.now) whole.now ∷ []) }
 {
-    let Some(operands) = operands(at) else {
-        return Ok(None);
+    let found = operands(at);
+    let Some(operands) = &found else {
+        return opaque(alloc, out, serial, whole);
     };
-    match width_of(hit, &operands) {
-        Some(width) => read_by(alloc, hit.op, width, &operands),
-        None => Ok(None),
+    let Some(width) = width_of(hit, operands) else {
+        return opaque(alloc, out, serial, whole);
+    };
+    match chosen(hit.op, width, operands) {
+        Some(op) => insn(alloc, out, serial, op, width, operands),
+        None => opaque(alloc, out, serial, whole),
     }
 }
 
@@ -150,30 +157,46 @@ fn lone_operand<'a>(at: &Cursor<'a>) -> Option<Operand<'a>>
 }
 
 // A name where control goes.
+#[inline(always)]
 #[tactic(auto, unfolding(att_grammar::specs::Instructions::target_of))]
-fn target(alloc: Global, op: Op, at: &Cursor) -> Result<Option<Insn>, AllocError>
-    ensures { IfOk result (λ i. i ≡ target_of op at.now) }
+fn target(
+    alloc: Global,
+    out: &mut Vec<Entry>,
+    serial: u32,
+    op: Op,
+    at: &Cursor,
+    whole: &Cursor,
+) -> Result<(), AllocError>
+    requires room { out.old.len < out.old.cap }
+    ensures { OnOk result (out.new.items ≡ out.old.items ++ entry_of serial (target_of op at.now) whole.now ∷ []) }
 {
     match lone_symbol(at) {
-        Some(symbol) => Ok(Some(Insn {
-            op,
-            width: Width::Q,
-            a: Arg::Code(atom(alloc, &symbol, 0)?),
-            b: Arg::Absent,
-            c: Arg::Absent,
-        })),
-        None => Ok(None),
+        Some(symbol) => jump_to(alloc, out, serial, op, &symbol),
+        None => opaque(alloc, out, serial, whole),
     }
 }
 
 // A register or memory that says where control goes.
 #[tactic(auto, unfolding(att_grammar::specs::Instructions::starred_of))]
-fn starred(alloc: Global, op: Op, at: &Cursor) -> Result<Option<Insn>, AllocError>
-    ensures { IfOk result (λ i. i ≡ starred_of op at.now) }
+fn starred(
+    alloc: Global,
+    out: &mut Vec<Entry>,
+    serial: u32,
+    op: Op,
+    at: &Cursor,
+    whole: &Cursor,
+) -> Result<(), AllocError>
+    requires room { out.old.len < out.old.cap }
+    ensures { OnOk result (out.new.items ≡ out.old.items ++ entry_of serial (starred_of op at.now) whole.now ∷ []) }
 {
-    match lone_operand(at) {
-        Some(operand) => read_as(alloc, op, Width::Q, &Operands::One(operand)),
-        None => Ok(None),
+    let Some(operand) = lone_operand(at) else {
+        return opaque(alloc, out, serial, whole);
+    };
+    let operands = Operands::One(operand);
+    if reads(op, Width::Q, &operands) {
+        insn(alloc, out, serial, op, Width::Q, &operands)
+    } else {
+        opaque(alloc, out, serial, whole)
     }
 }
 
@@ -188,16 +211,26 @@ fn star_op(name: &[u8]) -> Option<Op>
     }
 }
 
+#[inline(always)]
 #[tactic(auto, unfolding(att_grammar::specs::Instructions::jump_of))]
-fn jump(alloc: Global, op: Op, name: &[u8], at: &Cursor) -> Result<Option<Insn>, AllocError>
-    ensures { IfOk result (λ i. i ≡ jump_of op name.now at.now) }
+fn jump(
+    alloc: Global,
+    out: &mut Vec<Entry>,
+    serial: u32,
+    op: Op,
+    name: &[u8],
+    at: &Cursor,
+    whole: &Cursor,
+) -> Result<(), AllocError>
+    requires room { out.old.len < out.old.cap }
+    ensures { OnOk result (out.new.items ≡ out.old.items ++ entry_of serial (jump_of op name.now at.now) whole.now ∷ []) }
 {
     match at.expect(b'*') {
         Some(rest) => match star_op(name) {
-            Some(star) => starred(alloc, star, &rest),
-            None => Ok(None),
+            Some(star) => starred(alloc, out, serial, star, &rest, whole),
+            None => opaque(alloc, out, serial, whole),
         },
-        None => target(alloc, op, at),
+        None => target(alloc, out, serial, op, at, whole),
     }
 }
 
@@ -208,59 +241,99 @@ fn behind_notrack<'a>(at: &Cursor<'a>) -> Option<Cursor<'a>>
 }
 
 #[tactic(auto, unfolding(att_grammar::specs::Instructions::notrack_of))]
-fn notrack(alloc: Global, at: &Cursor) -> Result<Option<Insn>, AllocError>
-    ensures { IfOk result (λ i. i ≡ notrack_of at.now) }
+fn notrack(
+    alloc: Global,
+    out: &mut Vec<Entry>,
+    serial: u32,
+    at: &Cursor,
+    whole: &Cursor,
+) -> Result<(), AllocError>
+    requires room { out.old.len < out.old.cap }
+    ensures { OnOk result (out.new.items ≡ out.old.items ++ entry_of serial (notrack_of at.now) whole.now ∷ []) }
 {
     match behind_notrack(at) {
-        Some(rest) => starred(alloc, Op::JmpStarNotrack, &rest),
-        None => Ok(None),
+        Some(rest) => starred(alloc, out, serial, Op::JmpStarNotrack, &rest, whole),
+        None => opaque(alloc, out, serial, whole),
     }
 }
 
 #[tactic(auto, unfolding(att_grammar::specs::Instructions::rep_of))]
-fn rep(at: &Cursor) -> Option<Insn>
-    ensures { result ≡ rep_of at.now }
+fn rep(
+    alloc: Global,
+    out: &mut Vec<Entry>,
+    serial: u32,
+    at: &Cursor,
+    whole: &Cursor,
+) -> Result<(), AllocError>
+    requires room { out.old.len < out.old.cap }
+    ensures { OnOk result (out.new.items ≡ out.old.items ++ entry_of serial (rep_of at.now) whole.now ∷ []) }
 {
-    if at.this_word(b"ret")?.is_at_end() {
-        Some(Insn {
-            op: Op::RepRet,
-            width: Width::Q,
-            a: Arg::Absent,
-            b: Arg::Absent,
-            c: Arg::Absent,
-        })
+    let Some(rest) = at.this_word(b"ret") else {
+        return opaque(alloc, out, serial, whole);
+    };
+    if rest.is_at_end() {
+        insn(alloc, out, serial, Op::RepRet, Width::Q, &Operands::Nothing)
     } else {
-        None
+        opaque(alloc, out, serial, whole)
     }
+}
+
+fn is_notrack(name: &[u8]) -> bool
+    ensures { result ≡ bytes_eq (codes "notrack") name.now }
+{
+    name == b"notrack".as_slice()
+}
+
+fn is_rep(name: &[u8]) -> bool
+    ensures { result ≡ is_among (codes "rep" ∷ codes "repz" ∷ []) name.now }
+{
+    matches!(name, b"rep" | b"repz")
 }
 
 #[tactic(auto, unfolding(att_grammar::specs::Instructions::prefixed_of))]
-fn prefixed(alloc: Global, name: &[u8], at: &Cursor) -> Result<Option<Insn>, AllocError>
-    ensures { IfOk result (λ i. i ≡ prefixed_of name.now at.now) }
+fn prefixed(
+    alloc: Global,
+    out: &mut Vec<Entry>,
+    serial: u32,
+    name: &[u8],
+    at: &Cursor,
+    whole: &Cursor,
+) -> Result<(), AllocError>
+    requires room { out.old.len < out.old.cap }
+    ensures { OnOk result (out.new.items ≡ out.old.items ++ entry_of serial (prefixed_of name.now at.now) whole.now ∷ []) }
 {
-    match name {
-        b"notrack" => notrack(alloc, at),
-        b"rep" | b"repz" => Ok(rep(at)),
-        _ => Ok(None),
+    if is_notrack(name) {
+        notrack(alloc, out, serial, at, whole)
+    } else if is_rep(name) {
+        rep(alloc, out, serial, at, whole)
+    } else {
+        opaque(alloc, out, serial, whole)
     }
 }
 
-/// The instruction that the lexemes are, if they are one.
+/// Appends what the lexemes are: an instruction, if they are one, and else their words.
+#[inline(always)]
 #[tactic(auto, unfolding(att_grammar::specs::Instructions::instruction_of))]
-pub fn instruction(alloc: Global, at: &Cursor) -> Result<Option<Insn>, AllocError>
-    ensures { IfOk result (λ i. i ≡ instruction_of at.now) }
+pub fn instruction(
+    alloc: Global,
+    out: &mut Vec<Entry>,
+    serial: u32,
+    whole: &Cursor,
+) -> Result<(), AllocError>
+    requires room { out.old.len < out.old.cap }
+    ensures { OnOk result (out.new.items ≡ out.old.items ++ entry_of serial (instruction_of whole.now) whole.now ∷ []) }
 {
-    let Some((name, rest)) = at.word() else {
-        return Ok(None);
+    let Some((name, rest)) = whole.word() else {
+        return opaque(alloc, out, serial, whole);
     };
     match op_of_mnemonic(name.bytes()) {
         Some(hit) => {
             if is_direct(hit.op) {
-                jump(alloc, hit.op, name.bytes(), &rest)
+                jump(alloc, out, serial, hit.op, name.bytes(), &rest, whole)
             } else {
-                plain(alloc, hit, &rest)
+                plain(alloc, out, serial, hit, &rest, whole)
             }
         }
-        None => prefixed(alloc, name.bytes(), &rest),
+        None => prefixed(alloc, out, serial, name.bytes(), &rest, whole),
     }
 }

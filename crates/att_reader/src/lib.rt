@@ -5,11 +5,12 @@ mod entries;
 mod expressions;
 mod forms;
 mod instructions;
+mod opaque;
 mod operands;
 mod registers;
 mod values;
 
-pub use entries::read_entry;
+pub use entries::{EntryReader, read_entry};
 
 #[cfg(test)]
 mod tests;

@@ -1,10 +1,14 @@
 // Instructions made of operands; names are copied only here.
-ghost use Rattle.std.specs.Prelude.{◌≡◌, IfOk};
+ghost use Rattle.std.specs.Prelude.{◌≡◌, IfOk, pos, ◌<◌, ◌++◌, ◌∷◌, [], OnOk};
+ghost use Rattle.insn_ir.specs.declared.op.Width.TheVariants.{Q};
+ghost use Rattle.insn_ir.specs.declared.insn.Arg.{Arg};
+ghost use Rattle.insn_ir.specs.declared.entry.EntryKind.{EntryKind};
+ghost use Rattle.att_reader.specs.Made.{entry};
 ghost use Rattle.att_grammar.specs.declared.syntax.Operands.{Operands};
 ghost use Rattle.att_grammar.specs.Instructions.{atom_of, disp_of, mem_of, kept, imm_of, arg_of, is_shift, is_product, insn, insn_of};
 
 use att_grammar::{Address, Displacement, Operand, Operands, Symbol, Word};
-use insn_ir::{Arg, Atom, Disp, Imm, Insn, Mem, Name, Op, Width};
+use insn_ir::{Arg, Atom, Disp, Entry, EntryKind, Imm, Insn, Mem, Name, Op, Width};
 use std::alloc::{AllocError, Global};
 
 fn specifier(alloc: Global, spec: &Option<Word>) -> Result<Option<Name>, AllocError>
@@ -69,6 +73,7 @@ fn imm(alloc: Global, width: Width, symbol: &Option<Symbol>, n: i64) -> Result<I
     }
 }
 
+#[inline(always)]
 fn arg(alloc: Global, width: Width, operand: &Operand) -> Result<Arg, AllocError>
     ensures { IfOk result (λ a. a ≡ arg_of width operand.now) }
 {
@@ -91,79 +96,117 @@ fn is_product(op: Op) -> bool
     matches!(op, Op::Imul3)
 }
 
+// An instruction is large: it is made where it is to stay.
+#[inline(always)]
+fn put(out: &mut Vec<Entry>, serial: u32, op: Op, width: Width, a: Arg, b: Arg, c: Arg)
+    requires room { out.old.len < out.old.cap }
+    ensures { out.new.items ≡ out.old.items ++ entry serial (EntryKind.Insn (insn op width a b c)) ∷ [] }
+{
+    out.push_reserved(Entry {
+        serial,
+        kind: EntryKind::Insn(Insn { op, width, a, b, c }),
+    });
+}
+
 // An instruction with one operand; a shift is then by 1.
-fn with_one(alloc: Global, op: Op, width: Width, a: &Operand) -> Result<Insn, AllocError>
-    ensures { IfOk result (λ i. i ≡ insn_of op width (Operands.One a.now)) }
+#[inline(always)]
+fn with_one(
+    alloc: Global,
+    out: &mut Vec<Entry>,
+    serial: u32,
+    op: Op,
+    width: Width,
+    a: &Operand,
+) -> Result<(), AllocError>
+    requires room { out.old.len < out.old.cap }
+    ensures { OnOk result (out.new.items ≡ out.old.items ++ entry serial (EntryKind.Insn (insn_of op width (Operands.One a.now))) ∷ []) }
 {
     let a = arg(alloc, width, a)?;
     if is_shift(op) {
-        return Ok(Insn {
-            op,
-            width,
-            a: Arg::Imm(Imm::Num(1)),
-            b: a,
-            c: Arg::Absent,
-        });
+        let one = Arg::Imm(Imm::Num(1));
+        put(out, serial, op, width, one, a, Arg::Absent);
+        return Ok(());
     }
-    Ok(Insn {
-        op,
-        width,
-        a,
-        b: Arg::Absent,
-        c: Arg::Absent,
-    })
+    put(out, serial, op, width, a, Arg::Absent, Arg::Absent);
+    Ok(())
 }
 
 // An instruction with two operands; a product then has the second twice.
+#[inline(always)]
 fn with_two(
     alloc: Global,
+    out: &mut Vec<Entry>,
+    serial: u32,
     op: Op,
     width: Width,
     a: &Operand,
     b: &Operand,
-) -> Result<Insn, AllocError>
-    ensures { IfOk result (λ i. i ≡ insn_of op width (Operands.Two a.now b.now)) }
+) -> Result<(), AllocError>
+    requires room { out.old.len < out.old.cap }
+    ensures { OnOk result (out.new.items ≡ out.old.items ++ entry serial (EntryKind.Insn (insn_of op width (Operands.Two a.now b.now))) ∷ []) }
 {
     let first = arg(alloc, width, a)?;
     let second = arg(alloc, width, b)?;
     if is_product(op) {
-        return Ok(Insn {
-            op,
-            width,
-            a: first,
-            b: second,
-            c: arg(alloc, width, b)?,
-        });
+        let third = arg(alloc, width, b)?;
+        put(out, serial, op, width, first, second, third);
+        return Ok(());
     }
-    Ok(Insn {
-        op,
-        width,
-        a: first,
-        b: second,
-        c: Arg::Absent,
-    })
+    put(out, serial, op, width, first, second, Arg::Absent);
+    Ok(())
 }
 
-/// The instruction with these operands.
-pub fn insn(alloc: Global, op: Op, width: Width, operands: &Operands) -> Result<Insn, AllocError>
-    ensures { IfOk result (λ i. i ≡ insn_of op width operands.now) }
+/// Appends the instruction with these operands.
+#[inline(always)]
+pub fn insn(
+    alloc: Global,
+    out: &mut Vec<Entry>,
+    serial: u32,
+    op: Op,
+    width: Width,
+    operands: &Operands,
+) -> Result<(), AllocError>
+    requires room { out.old.len < out.old.cap }
+    ensures { OnOk result (out.new.items ≡ out.old.items ++ entry serial (EntryKind.Insn (insn_of op width operands.now)) ∷ []) }
 {
     match operands {
-        Operands::Nothing => Ok(Insn {
-            op,
-            width,
-            a: Arg::Absent,
-            b: Arg::Absent,
-            c: Arg::Absent,
-        }),
-        Operands::One(a) => with_one(alloc, op, width, a),
-        Operands::Two(a, b) => with_two(alloc, op, width, a, b),
-        Operands::Three(a, b, c) => Ok(Insn {
-            op,
-            width,
-            a: arg(alloc, width, a)?,
-            b: arg(alloc, width, b)?,
-            c: arg(alloc, width, c)?,
-        }),
+        Operands::Nothing => {
+            put(
+                out,
+                serial,
+                op,
+                width,
+                Arg::Absent,
+                Arg::Absent,
+                Arg::Absent,
+            );
+            Ok(())
+        }
+        Operands::One(a) => with_one(alloc, out, serial, op, width, a),
+        Operands::Two(a, b) => with_two(alloc, out, serial, op, width, a, b),
+        Operands::Three(a, b, c) => {
+            let first = arg(alloc, width, a)?;
+            let second = arg(alloc, width, b)?;
+            let third = arg(alloc, width, c)?;
+            put(out, serial, op, width, first, second, third);
+            Ok(())
+        }
     }
+}
+
+/// Appends the jump or call to a symbol.
+#[inline(always)]
+pub fn jump_to(
+    alloc: Global,
+    out: &mut Vec<Entry>,
+    serial: u32,
+    op: Op,
+    symbol: &Symbol,
+) -> Result<(), AllocError>
+    requires room { out.old.len < out.old.cap }
+    ensures { OnOk result (out.new.items ≡ out.old.items ++ entry serial (EntryKind.Insn (insn op Q (Arg.Code (atom_of symbol.now (pos 0))) Arg.Absent Arg.Absent)) ∷ []) }
+{
+    let to = Arg::Code(atom(alloc, symbol, 0)?);
+    put(out, serial, op, Width::Q, to, Arg::Absent, Arg::Absent);
+    Ok(())
 }
