@@ -1,7 +1,7 @@
 -- The rows of tables, by one walk over the entries.
-use Rattle.std.proofs.Common.{◌≡◌, ℕ, zero, suc, ◌+◌, ◌<◌, ◌≤◌, Bool, true, false, cond, List, [], ◌∷◌, ◌++◌, map, length, get_or, drop, Option, Some, None, refl, sym, ap, ◌∙◌, subst, arith, inl, inr, ⊎_elim}
+use Rattle.std.proofs.Common.{◌≡◌, ℕ, suc, ◌+◌, ◌<◌, ◌≤◌, Bool, true, false, cond, List, [], ◌∷◌, ◌++◌, map, length, get_or, drop, Option, Some, None, refl, sym, ap, ◌∙◌, subst, arith, inl, inr, ⊎_elim}
 use Rattle.std.specs.Prelude.{⊤, ◌⊎◌, filter, nat_eq, ◌&&◌, ◌||◌}
-use Rattle.std.specs.List.{list_any, list_all}
+use Rattle.std.specs.List.{list_any}
 use Rattle.std.proofs.lemmas.Bool.{eq-eqb, ne_eqb, or_from}
 use Rattle.std.proofs.lemmas.List.{length-map, get_or-map, drop_more, drop_all}
 use Rattle.insn_ir.specs.declared.entry.Entry.{Entry}
@@ -12,8 +12,8 @@ use Rattle.jump_tables.specs.declared.table.Table.{Table}
 use Rattle.asm_unit.specs.Held.{AreNumbered}
 use Rattle.asm_unit.proofs.CauseRules.{ascends}
 use Rattle.asm_unit.proofs.CauseFound.{entries_back}
-use Rattle.asm_unit.specs.Functions.{Part, nothing, functions}
-use Rattle.asm_unit.specs.Tables.{is_among, tables_of}
+use Rattle.asm_unit.specs.Functions.{nothing, functions}
+use Rattle.asm_unit.specs.Tables.{is_among}
 use Rattle.asm_unit.specs.Freeze.{is_in_table}
 use Rattle.asm_unit.specs.Causes.{Ascend}
 use Rattle.asm_unit.specs.FileNames.{scene, Marked, AreRows}

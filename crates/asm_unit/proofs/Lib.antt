@@ -1,6 +1,11 @@
 mod Examples
 pub mod Quiet
+pub mod Taken
 pub mod NopLaw
+pub mod StandLaws
+pub mod NextLaws
+pub mod UnitLaws
+pub mod BuildLaws
 pub mod Least
 pub mod HeldLaws
 pub mod Whole
@@ -20,6 +25,8 @@ pub mod CauseFound
 pub mod CauseNames
 pub mod CauseAll
 pub mod CauseRows
+pub mod TableOwnerLaws
+pub mod FunctionTableLaws
 pub mod WalkParts
 pub mod LabelLaws
 pub mod OwnedLaws
@@ -30,3 +37,8 @@ pub mod ReachAliases
 pub mod ReachWalk
 pub mod ReachLess
 pub mod ReachCounts
+pub mod ReachedFunctions
+pub mod LeadingLaws
+pub mod Numbered
+pub mod TableCellLaws
+pub mod TargetLaws

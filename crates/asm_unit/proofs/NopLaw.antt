@@ -1,6 +1,6 @@
 -- Nops go from a file, and each function behaves as before.
-use Rattle.std.proofs.Common.{◌≡◌, ℕ, Bool, true, false, not, cond, List, [], ◌∷◌, map, filter, Option, Some, None, refl, sym, ap, ◌∙◌, subst}
-use Rattle.std.specs.Prelude.{is_some, find, bytes_eq}
+use Rattle.std.proofs.Common.{◌≡◌, Bool, true, false, not, cond, List, [], ◌∷◌, map, filter, None, refl, sym, ap, ◌∙◌, subst}
+use Rattle.std.specs.Prelude.{is_some, bytes_eq}
 use Rattle.std.specs.List.{AllByRecursion}
 use Rattle.insn_ir.specs.declared.entry.EntryKind.{EntryKind}
 use Rattle.insn_ir.specs.declared.entry.Entry.{Entry}
@@ -11,10 +11,10 @@ use Rattle.insn_ir.specs.Entries.{lines_of, is_nop_entry}
 use Rattle.insn_ir.proofs.Removal.{without_nops_same}
 use Rattle.insn_ir.proofs.SameLaws.{same_sym, same_trans}
 use Rattle.jump_tables.specs.Sections.{Section, Placed, placed_from, placed, text, section_after}
-use Rattle.asm_unit.specs.Functions.{Part, is_label, is_end, label_of, section_at, section_of, typed_after, opens, onto, parts_from, parts, functions}
+use Rattle.asm_unit.specs.Functions.{Part, label_of, section_at, section_of, parts, functions}
 use Rattle.asm_unit.specs.Decisions.{Decision, code_with, codes_with, codes}
 use Rattle.asm_unit.specs.Edits.{is_frame, without, placed_without, part_without, TakesNoFrame, TakesNops, SameEach}
-use Rattle.asm_unit.proofs.Quiet.{parts_without, label_quiet}
+use Rattle.asm_unit.proofs.Taken.{all_parts, all_filtered, IsQuiet, find_label, functions_without}
 
 nop_no_frame : (k : EntryKind) → is_nop_entry k ≡ true → is_frame k ≡ false
 nop_no_frame (EntryKind.Insn i) e = refl
@@ -63,8 +63,11 @@ kinds ps = map (λ p. p.entry.kind) ps
 
 module _ (gone : Entry → Bool) where
   -- what goes are nops alone
+  abbrev IsNopIfGone : Placed → Type 0
+  IsNopIfGone p = gone p.entry ≡ true → is_nop_entry p.entry.kind ≡ true
+
   abbrev OnlyNops : List Placed → Type 0
-  OnlyNops ps = AllByRecursion (λ p. gone p.entry ≡ true → is_nop_entry p.entry.kind ≡ true) ps
+  OnlyNops ps = AllByRecursion IsNopIfGone ps
 
   abbrev OnlyNopsIn : Part → Type 0
   OnlyNopsIn q = OnlyNops q.body
@@ -73,46 +76,9 @@ module _ (gone : Entry → Bool) where
   only_placed s [] h = tt
   only_placed s (e ∷ es) h = (h.0, only_placed (section_after s e.kind) es h.1)
 
-  only_onto : (inside : Option (List ℕ)) (p : Placed) (qs : List Part) → (gone p.entry ≡ true → is_nop_entry p.entry.kind ≡ true) → AllByRecursion OnlyNopsIn qs → AllByRecursion OnlyNopsIn (onto inside p qs)
-  only_onto inside p [] g h = tt
-  only_onto None p (q ∷ qs) g h = (h.0, h.1)
-  only_onto (Some f) p (q ∷ qs) g h = ((g, h.0), h.1)
-
-  only_parts : (ps : List Placed) (typed : List (List ℕ)) (inside : Option (List ℕ)) → OnlyNops ps → AllByRecursion OnlyNopsIn (parts_from typed inside ps)
-  unfolding parts_from
-  only_parts [] typed inside h = (tt, tt)
-  only_parts (p ∷ ps) typed None h =
-      only_onto (opens typed p ps) p (parts_from (typed_after typed p.entry.kind) (opens typed p ps) ps) h.0 (only_parts ps (typed_after typed p.entry.kind) (opens typed p ps) h.1)
-  only_parts (p ∷ ps) typed (Some f) h = by_end (is_end f p) (only_parts ps typed None h.1) (only_onto (Some f) p (parts_from (typed_after typed p.entry.kind) (Some f) ps) h.0 (only_parts ps (typed_after typed p.entry.kind) (Some f) h.1))
-    where
-      by_end : (b : Bool) → AllByRecursion OnlyNopsIn (parts_from typed None ps) → AllByRecursion OnlyNopsIn (onto (Some f) p (parts_from (typed_after typed p.entry.kind) (Some f) ps)) → AllByRecursion OnlyNopsIn (cond b (record { before = []; body = p ∷ [] } ∷ parts_from typed None ps) (onto (Some f) p (parts_from (typed_after typed p.entry.kind) (Some f) ps)))
-      by_end true x y = (((h.0, tt)), x)
-      by_end false x y = y
-
-  -- the label stays
-  find_label : (ps : List Placed) → OnlyNops ps → find is_label (placed_without gone ps) ≡ find is_label ps
-  find_label [] h = refl
-  find_label (p ∷ ps) h = by_test (find_label ps h.1) (gone p.entry) refl
-    where
-      by_test : find is_label (placed_without gone ps) ≡ find is_label ps → (b : Bool) → gone p.entry ≡ b → find is_label (cond (not b) (p ∷ placed_without gone ps) (placed_without gone ps)) ≡ cond (is_label p) (Some p) (find is_label ps)
-      by_test rest true g = rest ∙ ap (λ o. cond (is_some o) (Some p) (find is_label ps)) (sym (label_quiet p.entry.kind (nop_no_frame p.entry.kind (h.0 g))))
-      by_test rest false g = ap (λ o. cond (is_label p) (Some p) o) rest
-
-  functions_of : (qs : List Part) → AllByRecursion OnlyNopsIn qs → filter (λ q. is_some (label_of q)) (map (part_without gone) qs) ≡ map (part_without gone) (filter (λ q. is_some (label_of q)) qs)
-  functions_of [] h = refl
-  functions_of (q ∷ qs) h = by_test (is_some (label_of (part_without gone q))) (is_some (label_of q)) (ap is_some (find_label q.body h.0)) (functions_of qs h.1)
-    where
-      by_test : (b c : Bool) → b ≡ c → filter (λ q. is_some (label_of q)) (map (part_without gone) qs) ≡ map (part_without gone) (filter (λ q. is_some (label_of q)) qs) → cond b (part_without gone q ∷ filter (λ q. is_some (label_of q)) (map (part_without gone) qs)) (filter (λ q. is_some (label_of q)) (map (part_without gone) qs)) ≡ map (part_without gone) (cond c (q ∷ filter (λ q. is_some (label_of q)) qs) (filter (λ q. is_some (label_of q)) qs))
-      by_test true true e rest = ap (λ xs. part_without gone q ∷ xs) rest
-      by_test false false e rest = rest
-      by_test true false e rest = absurd (no e)
-        where
-          no : true ≡ false → ⊥
-          no q = cc
-      by_test false true e rest = absurd (no e)
-        where
-          no : false ≡ true → ⊥
-          no q = cc
+  quiet_nops : (ps : List Placed) → OnlyNops ps → AllByRecursion (IsQuiet gone) ps
+  quiet_nops [] h = tt
+  quiet_nops (p ∷ ps) h = (λ g. nop_no_frame p.entry.kind (h.0 g), quiet_nops ps h.1)
 
   bare_without : (here : Placed → Bool) (ps : List Placed) → OnlyNops ps → bare (kinds (filter here (placed_without gone ps))) ≡ bare (kinds (filter here ps))
   bare_without here [] h = refl
@@ -137,7 +103,7 @@ module _ (gone : Entry → Bool) where
       (without_nops_same (code_with d q))
       (subst (λ ls. Same (record { name = d.name; lines = ls; tables = d.tables; home = d.home }) (code_with d (part_without gone q)))
       (bare_without (λ p. bytes_eq p.section.name (section_of (part_without gone q)).name) q.body h
-      ∙ ap (λ o. bare (kinds (filter (λ p. bytes_eq p.section.name (section_at o).name) q.body))) (find_label q.body h))
+      ∙ ap (λ o. bare (kinds (filter (λ p. bytes_eq p.section.name (section_at o).name) q.body))) (find_label gone q.body (quiet_nops q.body h)))
       (same_sym (code_with d (part_without gone q)) (without_nops (code_with d (part_without gone q))) (without_nops_same (code_with d (part_without gone q)))))
 
   codes_same : (ds : List Decision) (qs : List Part) → AllByRecursion OnlyNopsIn qs → SameEach (codes_with ds qs) (codes_with ds (map (part_without gone) qs))
@@ -145,21 +111,12 @@ module _ (gone : Entry → Bool) where
   codes_same (d ∷ ds) [] h = tt
   codes_same (d ∷ ds) (q ∷ qs) h = (code_same d q h.0, codes_same ds qs h.1)
 
-  only_filtered : (qs : List Part) → AllByRecursion OnlyNopsIn qs → AllByRecursion OnlyNopsIn (filter (λ q. is_some (label_of q)) qs)
-  only_filtered [] h = tt
-  only_filtered (q ∷ qs) h = by_test (is_some (label_of q)) h.0 (only_filtered qs h.1)
-    where
-      by_test : (b : Bool) → OnlyNopsIn q → AllByRecursion OnlyNopsIn (filter (λ q. is_some (label_of q)) qs) → AllByRecursion OnlyNopsIn (cond b (q ∷ filter (λ q. is_some (label_of q)) qs) (filter (λ q. is_some (label_of q)) qs))
-      by_test true x y = (x, y)
-      by_test false x y = y
-
 -- the functions of a file without nops are its functions without them
 pub functions_without_nops : (gone : Entry → Bool) (es : List Entry) → TakesNops gone es → functions (placed (without gone es)) ≡ map (part_without gone) (functions (placed es))
 functions_without_nops gone es h =
-    ap (λ qs. filter (λ q. is_some (label_of q)) qs) (parts_without gone es (nops_tell_nothing gone es h))
-    ∙ functions_of gone (parts (placed es)) (only_parts gone (placed es) [] None (only_placed gone text es h))
+    functions_without gone es (nops_tell_nothing gone es h)
 
 pub nops_same : (gone : Entry → Bool) (ds : List Decision) (es : List Entry) → TakesNops gone es → SameEach (codes ds es) (codes ds (without gone es))
 nops_same gone ds es h =
     subst (λ fs. SameEach (codes ds es) (codes_with ds fs)) (sym (functions_without_nops gone es h))
-    (codes_same gone ds (functions (placed es)) (only_filtered gone (parts (placed es)) (only_parts gone (placed es) [] None (only_placed gone text es h))))
+    (codes_same gone ds (functions (placed es)) (all_filtered (IsNopIfGone gone) (λ q. is_some (label_of q)) (parts (placed es)) (all_parts (IsNopIfGone gone) (placed es) [] None (only_placed gone text es h))))

@@ -11,6 +11,8 @@ pub mod OutsideUses
 pub mod FileNames
 pub mod FileFindings
 pub mod TableRows
+pub mod TableOwners
+pub mod FunctionTables
 pub mod Decisions
 pub mod Edits
 pub mod Held
@@ -22,3 +24,8 @@ pub mod Owned
 pub mod Bounds
 pub mod Reach
 pub mod ReachSteps
+pub mod Unit
+pub mod UnitFields
+pub mod Leading
+pub mod TableCells
+pub mod DefinedNames

@@ -21,6 +21,9 @@ pub record AliasTable : Type 0 where
   pub names : List (List ℕ)
   pub targets : List (List (List ℕ))
 
+abbrev pub no_aliases : AliasTable
+no_aliases = record { names = []; targets = [] }
+
 abbrev pub targets_in : AliasTable → List ℕ → List (List ℕ)
 targets_in t n = unwrap_or (looked n t.names t.targets) []
 
@@ -32,6 +35,10 @@ IsEven t = length t.targets ≡ length t.names
 
 abbrev pub set_as : List ℕ → List ℕ → Setting
 set_as a b = record { alias = a; of = b }
+
+-- from what a setting stands for to its alias
+abbrev pub turned : Setting → Setting
+turned s = set_as s.of s.alias
 
 -- a table after one more setting, or after none
 pub record IsWith (o : Option Setting) (old new : AliasTable) : Type 0 where

@@ -1,10 +1,10 @@
 // The aliases of a file.
 
-ghost use Rattle.std.specs.Prelude.{◌≡◌, IfOk, OnOk, Some, None};
+ghost use Rattle.std.specs.Prelude.{◌≡◌, length, map, not, nat_eq, option_map, IfOk, OnOk, Some, None};
 ghost use Rattle.jump_tables.specs.Names.{place_of};
 ghost use Rattle.jump_tables.specs.Sections.{placed};
 ghost use Rattle.asm_unit.specs.Aliases.{setting, settings};
-ghost use Rattle.asm_unit.specs.ReachSteps.{targets_in, IsTableOf, IsEven, IsWith, set_as};
+ghost use Rattle.asm_unit.specs.ReachSteps.{no_aliases, targets_in, IsTableOf, IsEven, IsWith, set_as, turned};
 
 use insn_ir::{DirectiveKind, Entry, EntryKind, Name, NameList};
 use jump_tables::Symbols;
@@ -27,16 +27,33 @@ impl Model for Aliases {
 }
 
 impl Aliases {
+    fn new(alloc: Global) -> Aliases
+        ensures { result ≡ no_aliases }
+    {
+        Aliases {
+            names: Symbols::new(alloc),
+            targets: Vec::new(alloc),
+        }
+    }
+
     /// The aliases of a file: what `.set` sets each to, in order.
     pub fn of_entries(alloc: Global, entries: &[Entry]) -> Result<Aliases, AllocError>
         ensures { IfOk result (λ a. IsTableOf (settings (placed entries.now)) a) }
     {
-        let mut aliases = Aliases {
-            names: Symbols::new(alloc),
-            targets: Vec::new(alloc),
-        };
+        let mut aliases = Aliases::new(alloc);
         for entry in entries {
             aliases.note(alloc, &entry.kind)?;
+        }
+        Ok(aliases)
+    }
+
+    /// The aliases of a file turned round: for each name the aliases that `.set` gives it, in order.
+    pub fn turned(alloc: Global, entries: &[Entry]) -> Result<Aliases, AllocError>
+        ensures { IfOk result (λ a. IsTableOf (map turned (settings (placed entries.now))) a) }
+    {
+        let mut aliases = Aliases::new(alloc);
+        for entry in entries {
+            aliases.note_turned(alloc, &entry.kind)?;
         }
         Ok(aliases)
     }
@@ -47,6 +64,16 @@ impl Aliases {
     {
         match kind {
             EntryKind::Directive(DirectiveKind::Alias(alias, of)) => self.set(alloc, alias, of),
+            _ => Ok(()),
+        }
+    }
+
+    fn note_turned(&mut self, alloc: Global, kind: &EntryKind) -> Result<(), AllocError>
+        requires { IsEven self.old }
+        ensures { OnOk result (IsWith (option_map turned (setting kind.now)) self.old self.new) }
+    {
+        match kind {
+            EntryKind::Directive(DirectiveKind::Alias(alias, of)) => self.set(alloc, of, alias),
             _ => Ok(()),
         }
     }
@@ -83,5 +110,12 @@ impl Aliases {
             Some(list) => list.as_slice(),
             None => &[],
         }
+    }
+
+    /// Whether it is an alias: it is set to a name.
+    pub fn has(&self, name: &[u8]) -> bool
+        ensures { result ≡ not (nat_eq (length (targets_in self.now name.now)) 0) }
+    {
+        !self.targets_of(name).is_empty()
     }
 }

@@ -4,24 +4,42 @@
 mod aliases;
 mod cause;
 mod causes;
+mod decide;
+mod defined_names;
 mod held;
 mod labels;
 pub mod laws;
 mod layout;
+mod leading;
 mod name_counts;
+mod owned_tables;
 mod reach;
 pub mod reach_laws;
 mod reach_names;
+mod reached_functions;
+mod table_cells;
+mod unit;
 
 pub use aliases::Aliases;
 pub use cause::{FreezeCause, FreezeKind};
 pub use causes::{file_cause, function_causes, table_rows};
+pub use decide::{Decided, DecidedFunction};
 pub use held::HeldList;
 pub use labels::{FileLabels, Labels, labels_of};
 pub use layout::{FunctionBounds, Layout, SectionAt, label_name, lay_out};
+pub use leading::leading_names;
+pub use owned_tables::table_owners;
 pub use reach::{ReachBy, Reached};
+pub use reached_functions::{FunctionUses, uses_of_functions};
+pub use unit::AsmUnit;
 
+#[cfg(test)]
+mod leading_tests;
 #[cfg(test)]
 mod reach_tests;
 #[cfg(test)]
+mod table_owner_tests;
+#[cfg(test)]
 mod tests;
+#[cfg(test)]
+mod unit_tests;

@@ -1,9 +1,9 @@
 // The names that a file reaches along aliases.
 
-ghost use Rattle.std.specs.Prelude.{◌≡◌, ℕ, List, map, fold, IfOk, OnOk};
+ghost use Rattle.std.specs.Prelude.{◌≡◌, ℕ, List, [], map, fold, is_some, IfOk, OnOk};
 ghost use Rattle.jump_tables.specs.Sections.{Section, section_after, is_debug, placed};
-ghost use Rattle.asm_unit.specs.Aliases.{Setting, settings};
-ghost use Rattle.asm_unit.specs.Reach.{first_in, first_reaching};
+ghost use Rattle.asm_unit.specs.Aliases.{Setting, settings, has_or_alias};
+ghost use Rattle.asm_unit.specs.Reach.{Marks, first_in, first_reaching};
 ghost use Rattle.asm_unit.specs.ReachSteps.{IsTableOf, no_marks, searching, visited, AreMarked, ReachedFrom};
 
 use crate::aliases::Aliases;
@@ -25,7 +25,7 @@ pub enum ReachBy {
 }
 
 /// Whether what follows an entry stands in a debug section, where this is so before it.
-fn debug_after(debug: bool, kind: &EntryKind) -> bool
+pub(crate) fn debug_after(debug: bool, kind: &EntryKind) -> bool
     ensures { (s : Section) → is_debug s ≡ debug → result ≡ is_debug (section_after s kind.now) }
 {
     match kind {
@@ -71,14 +71,14 @@ impl Reached {
     fn visit<'a>(
         &mut self,
         alloc: Global,
-        queue: &mut Vec<&'a Name>,
+        queue: &mut Vec<&'a [u8]>,
         serial: u32,
-        name: &'a Name,
+        name: &'a [u8],
     ) -> Result<(), AllocError>
         ensures { OnOk result (searching self.new (map (λ n. n.now) queue.new.items) ≡ visited serial (searching self.old (map (λ n. n.now) queue.old.items)) name.now) }
     {
-        if self.names.number_of(name.as_slice()).is_none() {
-            self.names.add(alloc, name.as_slice())?;
+        if self.names.number_of(name).is_none() {
+            self.names.add(alloc, name)?;
             self.firsts.push(serial)?;
             queue.push(name)?;
         }
@@ -88,9 +88,39 @@ impl Reached {
     fn visit_each<'a>(
         &mut self,
         alloc: Global,
-        queue: &mut Vec<&'a Name>,
+        queue: &mut Vec<&'a [u8]>,
         serial: u32,
         names: &[&'a Name],
+    ) -> Result<(), AllocError>
+        ensures { OnOk result (searching self.new (map (λ n. n.now) queue.new.items) ≡ fold (visited serial) (searching self.old (map (λ n. n.now) queue.old.items)) (map (λ n. n.now) names.now)) }
+    {
+        for name in names {
+            self.visit(alloc, queue, serial, name.as_slice())?;
+        }
+        Ok(())
+    }
+
+    fn visit_targets<'a>(
+        &mut self,
+        alloc: Global,
+        queue: &mut Vec<&'a [u8]>,
+        serial: u32,
+        targets: &'a [Name],
+    ) -> Result<(), AllocError>
+        ensures { OnOk result (searching self.new (map (λ n. n.now) queue.new.items) ≡ fold (visited serial) (searching self.old (map (λ n. n.now) queue.old.items)) targets.now) }
+    {
+        for name in targets {
+            self.visit(alloc, queue, serial, name.as_slice())?;
+        }
+        Ok(())
+    }
+
+    fn visit_slices<'a>(
+        &mut self,
+        alloc: Global,
+        queue: &mut Vec<&'a [u8]>,
+        serial: u32,
+        names: &[&'a [u8]],
     ) -> Result<(), AllocError>
         ensures { OnOk result (searching self.new (map (λ n. n.now) queue.new.items) ≡ fold (visited serial) (searching self.old (map (λ n. n.now) queue.old.items)) (map (λ n. n.now) names.now)) }
     {
@@ -100,17 +130,19 @@ impl Reached {
         Ok(())
     }
 
-    fn visit_targets<'a>(
+    /// Marks with this serial what the names that were visited reach and nothing has reached before.
+    fn follow<'a>(
         &mut self,
         alloc: Global,
-        queue: &mut Vec<&'a Name>,
+        aliases: &'a Aliases,
         serial: u32,
-        targets: &'a [Name],
+        mut queue: Vec<&'a [u8]>,
     ) -> Result<(), AllocError>
-        ensures { OnOk result (searching self.new (map (λ n. n.now) queue.new.items) ≡ fold (visited serial) (searching self.old (map (λ n. n.now) queue.old.items)) targets.now) }
+        ensures { OnOk result ((ss : List Setting) (cs : List (List ℕ)) (marks : Marks) → IsTableOf ss aliases.now → AreMarked ss marks
+            → searching self.old (map (λ n. n.now) queue.entry.items) ≡ fold (visited serial) (searching marks []) cs → ReachedFrom ss cs serial marks self.new) }
     {
-        for name in targets {
-            self.visit(alloc, queue, serial, name)?;
+        while let Some(name) = queue.pop() {
+            self.visit_targets(alloc, &mut queue, serial, aliases.targets_of(name))?;
         }
         Ok(())
     }
@@ -127,15 +159,23 @@ impl Reached {
     {
         let mut queue = Vec::new(alloc);
         self.visit_each(alloc, &mut queue, serial, names)?;
-        while let Some(name) = queue.pop() {
-            self.visit_targets(
-                alloc,
-                &mut queue,
-                serial,
-                aliases.targets_of(name.as_slice()),
-            )?;
-        }
-        Ok(())
+        self.follow(alloc, aliases, serial, queue)
+    }
+
+    /// What these names reach, without an entry that does: each name with the serial 0. The work is linear in the names and
+    /// the aliases.
+    pub fn from_names(
+        alloc: Global,
+        aliases: &Aliases,
+        names: &[&[u8]],
+    ) -> Result<Reached, AllocError>
+        ensures { IfOk result (λ r. (ss : List Setting) → IsTableOf ss aliases.now → (f : List ℕ) → is_some (first_in r f) ≡ has_or_alias ss f (map (λ n. n.now) names.now)) }
+    {
+        let mut reached = Reached::new(alloc);
+        let mut queue = Vec::new(alloc);
+        reached.visit_slices(alloc, &mut queue, 0, names)?;
+        reached.follow(alloc, aliases, 0, queue)?;
+        Ok(reached)
     }
 
     /// The names that a file reaches. The work is linear in the entries, their names and the aliases.

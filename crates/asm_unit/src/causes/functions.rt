@@ -3,7 +3,8 @@
 ghost use Rattle.std.specs.Prelude.{◌≡◌, ℕ, List, map, IfOk};
 ghost use Rattle.jump_tables.specs.Names.{has, AreDistinct};
 ghost use Rattle.jump_tables.specs.Sections.{placed};
-ghost use Rattle.asm_unit.specs.Functions.{functions, parts, label_names};
+ghost use Rattle.asm_unit.specs.Functions.{functions, parts, label_names, name_of};
+ghost use Rattle.asm_unit.specs.LabelOwners.{label_number, first_label};
 ghost use Rattle.asm_unit.specs.Freeze.{cause};
 ghost use Rattle.asm_unit.specs.Held.{AreNumbered};
 ghost use Rattle.asm_unit.specs.Layout.{bounds_from, owners_from};
@@ -12,7 +13,6 @@ ghost use Rattle.asm_unit.specs.FileNames.{scene, leads_on, AreRows};
 
 use super::findings::FileFindings;
 use super::labels::Labels;
-use super::names::function_names;
 use super::outside::LabelsOfFile;
 use crate::cause::FreezeCause;
 use crate::layout::Layout;
@@ -21,7 +21,8 @@ use jump_tables::Symbols;
 use std::alloc::{AllocError, Global};
 
 /// Why each function of a file is copied as it is, in order, or None where no rule holds, for a file without a cause of its
-/// own. `rows` has for each entry the number, from 1, of the function of whose tables it is a row, or 0; `leading` are the
+/// own. `labels` are the labels with the functions in whose code they stand, and `names` the functions' names in order. `rows`
+/// has for each entry the number, from 1, of the function of whose tables it is a row, or 0; `leading` are the
 /// labels and aliases that stand for no function; `with_offset` and `by_data` have for each function the first instruction
 /// that names it, or an alias of it, with an offset, and the first data that may reach into it. Linear in the entries and
 /// their names.
@@ -29,6 +30,8 @@ pub fn function_causes(
     alloc: Global,
     entries: &[Entry],
     layout: &Layout,
+    labels: &Labels,
+    names: &[&[u8]],
     rows: &[usize],
     leading: &Symbols,
     with_offset: &[Option<u32>],
@@ -38,6 +41,8 @@ pub fn function_causes(
     requires distinct { AreDistinct (label_names (placed entries.now)) }
     requires bounds { layout.now.bounds.items ≡ bounds_from 0 (parts (placed entries.now)) }
     requires owners { layout.now.owners.items ≡ owners_from 0 (parts (placed entries.now)) }
+    requires labels { (n : List ℕ) → label_number labels.now.names labels.now.owners n ≡ first_label entries.now layout.now.owners.items n }
+    requires names { map (λ n. n.now) names.now ≡ map name_of (functions (placed entries.now)) }
     requires rows { AreRows (placed entries.now) rows.now }
     requires leading { (n : List ℕ) → has n leading.now ≡ leads_on (placed entries.now) n }
     requires with_offset { with_offset.now ≡ map (λ f. first_where (offset_from (scene (placed entries.now) f)) (placed entries.now)) (functions (placed entries.now)) }
@@ -46,19 +51,14 @@ pub fn function_causes(
 {
     let bounds = layout.bounds.as_slice();
     let owners = layout.owners.as_slice();
-    let names = function_names(alloc, entries, bounds)?;
-    let labels = Labels::of(alloc, entries, owners)?;
-    let of_file = LabelsOfFile {
-        labels: &labels,
-        names: names.as_slice(),
-    };
+    let of_file = LabelsOfFile { labels, names };
     let outside = of_file.first_uses(alloc, entries, owners, rows)?;
     let findings = FileFindings {
         entries,
         bounds,
         owners,
-        labels: &labels,
-        names: names.as_slice(),
+        labels,
+        names,
         leading,
         outside: outside.as_slice(),
         with_offset,

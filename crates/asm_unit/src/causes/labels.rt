@@ -1,27 +1,39 @@
 // The labels of a file, and the functions that they stand in.
 
-ghost use Rattle.std.specs.Prelude.{◌≡◌, length, List, ℕ, IfOk, OnOk};
-ghost use Rattle.asm_unit.specs.LabelOwners.{label_number, no_labels, noted_label, first_label};
+ghost use Rattle.std.specs.Prelude.{◌≡◌, ◌<◌, ◌||◌, length, map, List, ℕ, IfOk, OnOk};
+ghost use Rattle.jump_tables.specs.Names.{has};
+ghost use Rattle.jump_tables.specs.Sections.{placed};
 ghost use Rattle.jump_tables.specs.Tables.{label_name};
+ghost use Rattle.asm_unit.specs.Functions.{label_names};
+ghost use Rattle.asm_unit.specs.LabelOwners.{label_number, no_labels, noted_label, first_label, IsPlaceOf, target_within};
 
 use insn_ir::{Entry, EntryKind};
 use jump_tables::Symbols;
 use std::alloc::{AllocError, Global};
 use std::marker::Model;
 
-/// The labels of a file, each with the number from 1 of the function in whose code it stands, or 0.
+/// Where a label stands.
+#[derive(Clone, Copy, Drop)]
+pub struct LabelPlace {
+    /// The number, from 1, of the function in whose code it stands, or 0.
+    pub owner: usize,
+    pub serial: u32,
+}
+
+/// The labels of a file, each with the number from 1 of the function in whose code it stands, or 0, and with its serial.
 #[derive(Drop)]
 pub struct Labels {
     names: Symbols,
-    owners: Vec<usize>,
+    places: Vec<LabelPlace>,
 }
 
 impl Model for Labels {
+    ghost use Rattle.std.specs.Prelude.{map};
     ghost use Rattle.asm_unit.specs.LabelOwners.{LabelOwners};
 
     ghost Value = { LabelOwners };
 
-    ghost view = { λ l. record { names = l.names; owners = l.owners.items } };
+    ghost view = { λ l. record { names = l.names; owners = map (λ p. p.owner) l.places.items; serials = map (λ p. p.serial) l.places.items } };
 }
 
 impl Labels {
@@ -30,31 +42,60 @@ impl Labels {
     {
         Labels {
             names: Symbols::new(alloc),
-            owners: Vec::new(alloc),
+            places: Vec::new(alloc),
         }
+    }
+
+    fn place_of(&self, name: &[u8]) -> Option<LabelPlace>
+        ensures { IsPlaceOf self.now name.now result }
+    {
+        let place = self.names.number_of(name)?;
+        let places = self.places.as_slice();
+        if place < places.len() {
+            Some(places[place])
+        } else {
+            None
+        }
+    }
+
+    /// Whether there is a label of this name.
+    pub fn has(&self, name: &[u8]) -> bool
+        ensures { result ≡ has name.now self.now.names }
+    {
+        self.names.has(name)
     }
 
     /// The number of the function in whose code the label stands, or 0.
     pub fn number(&self, name: &[u8]) -> usize
         ensures { result ≡ label_number self.now.names self.now.owners name.now }
     {
-        let Some(place) = self.names.number_of(name) else {
-            return 0;
-        };
-        if place < self.owners.len() {
-            self.owners[place]
-        } else {
-            0
+        match self.place_of(name) {
+            Some(place) => place.owner,
+            None => 0,
         }
     }
 
-    fn note(&mut self, alloc: Global, kind: &EntryKind, owner: usize) -> Result<(), AllocError>
-        ensures { OnOk result (self.new ≡ noted_label self.old (label_name kind.now) owner) }
+    /// The serial of the local label of this name of the function of this number, from 1, and name.
+    pub fn target(&self, number: usize, own: &[u8], name: &[u8]) -> Option<u32>
+        requires { 0 < number }
+        ensures { result ≡ target_within self.now number own.now name.now }
     {
-        if let EntryKind::Label(name) = kind
+        match self.place_of(name) {
+            Some(place) if place.owner == number && name != own => Some(place.serial),
+            _ => None,
+        }
+    }
+
+    fn note(&mut self, alloc: Global, entry: &Entry, owner: usize) -> Result<(), AllocError>
+        ensures { OnOk result (self.new ≡ noted_label self.old (label_name entry.now.kind) owner entry.now.serial) }
+    {
+        if let EntryKind::Label(name) = &entry.kind
             && !self.names.has(name.as_slice())
         {
-            self.owners.push(owner)?;
+            self.places.push(LabelPlace {
+                owner,
+                serial: entry.serial,
+            })?;
             self.names.add(alloc, name.as_slice())?;
         }
         Ok(())
@@ -63,12 +104,13 @@ impl Labels {
     /// The labels of these entries, of which each stands in the code of the function of that number.
     pub fn of(alloc: Global, entries: &[Entry], owners: &[usize]) -> Result<Labels, AllocError>
         requires { length owners.now ≡ length entries.now }
-        ensures { IfOk result (λ l. (n : List ℕ) → label_number l.names l.owners n ≡ first_label entries.now owners.now n) }
+        ensures owners { IfOk result (λ l. (n : List ℕ) → label_number l.names l.owners n ≡ first_label entries.now owners.now n) }
+        ensures serials { IfOk result (λ l. (n : List ℕ) → label_number l.names l.serials n ≡ first_label entries.now (map (λ e. e.serial) entries.now) n) }
+        ensures names { IfOk result (λ l. (n : List ℕ) → has n l.names ≡ has n (label_names (placed entries.now))) }
     {
         let mut labels = Labels::new(alloc);
         for i in 0..entries.len() {
-            let entry = &entries[i];
-            labels.note(alloc, &entry.kind, owners[i])?;
+            labels.note(alloc, &entries[i], owners[i])?;
         }
         Ok(labels)
     }

@@ -3,12 +3,13 @@
 ghost use Rattle.std.specs.Prelude.{◌≡◌, ◌<◌, ◌≤◌, ℕ, not, ◌&&◌, map, length, None, replicate, slice_index_or, IfOk, IfSome, OnOk};
 ghost use Rattle.std.specs.List.{list_any};
 ghost use Rattle.jump_tables.specs.Uses.{names};
-ghost use Rattle.jump_tables.specs.Sections.{Section, is_debug, section_after, placed};
+ghost use Rattle.jump_tables.specs.Sections.{placed};
 ghost use Rattle.asm_unit.specs.OutsideUses.{is_place, is_used, NotedBy, first_outside};
 
 use super::labels::Labels;
-use insn_ir::{DirectiveKind, Entry, EntryKind, Name};
-use jump_tables::{is_debug_name, names_of};
+use crate::reach::debug_after;
+use insn_ir::{Entry, Name};
+use jump_tables::names_of;
 use std::alloc::{AllocError, Global};
 
 /// The labels of a file with the functions that they stand in, and the names of the functions in order.
@@ -16,16 +17,6 @@ use std::alloc::{AllocError, Global};
 pub struct LabelsOfFile<'a> {
     pub labels: &'a Labels,
     pub names: &'a [&'a [u8]],
-}
-
-/// Whether what follows an entry stands in a debug section, where this is so before it.
-fn debug_after(debug: bool, kind: &EntryKind) -> bool
-    ensures { (s : Section) → is_debug s ≡ debug → result ≡ is_debug (section_after s kind.now) }
-{
-    match kind {
-        EntryKind::Directive(DirectiveKind::Section { name, .. }) => is_debug_name(name.as_slice()),
-        _ => debug,
-    }
 }
 
 // The entry is the first for the function at this place, where it has had none.

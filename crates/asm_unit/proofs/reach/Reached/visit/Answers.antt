@@ -9,5 +9,5 @@ pub returns-else-is_none : goal.returns-else-is_none
 returns-else-is_none c =
     sym (cond-true (has c.args.name.now c.args.self.now.names) _ _
     (sym (some_place c.args.name.now c.args.self.now.names)
-    ∙ ap is_some (ap (λ m. place_of c.args.name.now m.names) (sym c.self.view_is) ∙ ap (λ n. place_of n c.self.inside.names) (sym c.as_slice.ensures) ∙ sym c.number_of.ensures.found)
+    ∙ ap is_some (ap (λ m. place_of c.args.name.now m.names) (sym c.self.view_is) ∙ sym c.number_of.ensures.found)
     ∙ c.if-is_none.ensures))

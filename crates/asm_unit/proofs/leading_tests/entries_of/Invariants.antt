@@ -1,0 +1,10 @@
+use Rattle.std.proofs.Common.{◌≡◌, ◌+◌, length}
+use Rattle.asm_unit.specs.Held.{AreNumbered}
+use Rattle.asm_unit.proofs.leading_tests.entries_of.Given as goal
+
+abbrev pub invariant-loop-line : goal.invariant-loop-line
+invariant-loop-line l = record {
+  numbered : AreNumbered 0 l.entries.items;
+  many : length l.entries.items ≡ l.line-index;
+  serial : l.serial ≡ l.line-index + 1;
+}

@@ -1,0 +1,181 @@
+// What is decided of a file when it is read.
+
+ghost use Rattle.std.specs.Prelude.{◌≡◌, ◌<◌, ◌^◌, List, [], length, map, Some, None, IfOk};
+ghost use Rattle.jump_tables.specs.Names.{AreDistinct};
+ghost use Rattle.jump_tables.specs.Sections.{placed};
+ghost use Rattle.asm_unit.specs.Functions.{functions, label_names};
+ghost use Rattle.asm_unit.specs.Freeze.{file_cause};
+ghost use Rattle.asm_unit.specs.Held.{Held, AreNumbered, entries_of};
+ghost use Rattle.asm_unit.specs.Decisions.{decision, decisions};
+ghost use Rattle.asm_unit.specs.DefinedNames.{Keeps};
+ghost use Rattle.asm_unit.specs.UnitFields.{decided_from};
+
+use crate::aliases::Aliases;
+use crate::cause::FreezeCause;
+use crate::causes::{Labels, file_cause, function_causes, function_names, table_rows};
+use crate::defined_names::DefinedNames;
+use crate::layout::{FunctionBounds, Layout, lay_out};
+use crate::leading::leading_names;
+use crate::owned_tables::table_owners;
+use crate::reached_functions::uses_of_functions;
+use crate::table_cells::TableCells;
+use insn_ir::{Entry, Name};
+use jump_tables::{Tables, find_tables};
+use std::alloc::{AllocError, Global};
+
+/// What was decided of a function: its name, whether calls or jumps of the file lead to it, why it is copied as it is, if so,
+/// and where it stands.
+#[derive(Drop)]
+pub struct DecidedFunction {
+    pub name: Name,
+    pub home: bool,
+    pub cause: Option<FreezeCause>,
+    pub bounds: FunctionBounds,
+}
+
+/// What was decided of a file.
+#[derive(Drop)]
+pub struct Decided {
+    /// Why it has no functions.
+    pub file: Option<FreezeCause>,
+    pub functions: Vec<DecidedFunction>,
+    pub tables: Tables,
+    /// Of each table the number, from 1, of the function whose it is, or 0.
+    pub table_owners: Vec<usize>,
+    /// Of each entry the number, from 1, of the function in whose code it stands, or 0.
+    pub owners: Vec<usize>,
+    pub names: DefinedNames,
+}
+
+fn decided_functions(
+    alloc: Global,
+    names: &[&[u8]],
+    home: &[bool],
+    causes: &[Option<FreezeCause>],
+    bounds: &[FunctionBounds],
+) -> Result<Vec<DecidedFunction>, AllocError>
+    requires home { length home.now ≡ length names.now }
+    requires causes { length causes.now ≡ length names.now }
+    requires bounds { length bounds.now ≡ length names.now }
+    ensures names { IfOk result (λ v. map (λ f. f.name) v.items ≡ map (λ n. n.now) names.now) }
+    ensures home { IfOk result (λ v. map (λ f. f.home) v.items ≡ home.now) }
+    ensures causes { IfOk result (λ v. map (λ f. f.cause) v.items ≡ causes.now) }
+    ensures bounds { IfOk result (λ v. map (λ f. f.bounds) v.items ≡ bounds.now) }
+{
+    let mut functions = Vec::with_capacity(alloc, names.len())?;
+    for i in 0..names.len() {
+        functions.push(DecidedFunction {
+            name: Name::from_slice(alloc, names[i])?,
+            home: home[i],
+            cause: causes[i],
+            bounds: bounds[i],
+        })?;
+    }
+    Ok(functions)
+}
+
+// The functions of a file that isn't frozen.
+fn decide_functions(alloc: Global, entries: &[Entry]) -> Result<Decided, AllocError>
+    requires numbered { AreNumbered 0 entries.now }
+    requires distinct { AreDistinct (label_names (placed entries.now)) }
+    requires few { length entries.now < 2 ^ 32 }
+    ensures file { IfOk result (λ d. d.file ≡ None) }
+    ensures decided { IfOk result (λ d. decided_from 0 d.functions.items d.tables d.table_owners.items ≡ map (decision (placed entries.now)) (functions (placed entries.now))) }
+    ensures keeps { IfOk result (λ d. (hs : List Held) → entries_of hs ≡ entries.now → Keeps hs d.functions.items d.owners.items d.tables d.table_owners.items d.names) }
+{
+    let layout = lay_out(alloc, entries)?;
+    let names = function_names(alloc, entries, &layout.bounds)?;
+    let labels = Labels::of(alloc, entries, &layout.owners)?;
+    let tables = find_tables(alloc, entries)?;
+    let numbers = table_owners(
+        alloc,
+        entries,
+        tables.as_slice(),
+        &labels,
+        &names,
+        &layout.owners,
+    )?;
+    let rows = table_rows(alloc, entries, tables.as_slice(), &numbers)?;
+    let aliases = Aliases::of_entries(alloc, entries)?;
+    let uses = uses_of_functions(alloc, entries, &aliases, &names)?;
+    let leading = leading_names(alloc, entries, &names)?;
+    let causes = function_causes(
+        alloc,
+        entries,
+        &layout,
+        &labels,
+        &names,
+        &rows,
+        &leading,
+        &uses.with_offset,
+        &uses.by_data,
+    )?;
+    let functions = decided_functions(alloc, &names, &uses.home, &causes, &layout.bounds)?;
+    let cells = TableCells::of(alloc, tables.as_slice(), &numbers, &labels, &names)?;
+    let Layout { bounds: _, owners } = layout;
+    Ok(Decided {
+        file: None,
+        functions,
+        tables,
+        table_owners: numbers,
+        owners,
+        names: DefinedNames {
+            labels,
+            aliases,
+            cells,
+        },
+    })
+}
+
+// Of each entry that no function has it in its code.
+fn unowned(alloc: Global, count: usize) -> Result<Vec<usize>, AllocError>
+    ensures { IfOk result (λ v. length v.items ≡ count) }
+{
+    let mut owners = Vec::with_capacity(alloc, count)?;
+    for _ in 0..count {
+        owners.push(0)?;
+    }
+    Ok(owners)
+}
+
+// A frozen file has no functions.
+fn decide_nothing(
+    alloc: Global,
+    cause: FreezeCause,
+    entries: &[Entry],
+) -> Result<Decided, AllocError>
+    requires numbered { AreNumbered 0 entries.now }
+    ensures file { IfOk result (λ d. d.file ≡ Some cause) }
+    ensures decided { IfOk result (λ d. decided_from 0 d.functions.items d.tables d.table_owners.items ≡ []) }
+    ensures keeps { IfOk result (λ d. (hs : List Held) → entries_of hs ≡ entries.now → Keeps hs d.functions.items d.owners.items d.tables d.table_owners.items d.names) }
+{
+    let owners = unowned(alloc, entries.len())?;
+    let names = DefinedNames {
+        labels: Labels::of(alloc, entries, &owners)?,
+        aliases: Aliases::of_entries(alloc, entries)?,
+        cells: TableCells::new(alloc),
+    };
+    Ok(Decided {
+        file: Some(cause),
+        functions: Vec::new(alloc),
+        tables: Tables::new(alloc),
+        table_owners: Vec::new(alloc),
+        owners,
+        names,
+    })
+}
+
+/// What is decided of a file: why it is frozen whole, or of each function its name, whether it is home, why it is frozen, and
+/// its tables. `frozen` is the first piece that a byte or an open string freezes. Linear in the entries and their names.
+pub fn decide(alloc: Global, frozen: Option<u32>, entries: &[Entry]) -> Result<Decided, AllocError>
+    requires numbered { AreNumbered 0 entries.now }
+    requires few { length entries.now < 2 ^ 32 }
+    ensures file { IfOk result (λ d. d.file ≡ file_cause frozen (placed entries.now)) }
+    ensures decided { IfOk result (λ d. decided_from 0 d.functions.items d.tables d.table_owners.items ≡ decisions frozen entries.now) }
+    ensures keeps { IfOk result (λ d. (hs : List Held) → entries_of hs ≡ entries.now → Keeps hs d.functions.items d.owners.items d.tables d.table_owners.items d.names) }
+{
+    match file_cause(alloc, frozen, entries)? {
+        Some(cause) => decide_nothing(alloc, cause, entries),
+        None => decide_functions(alloc, entries),
+    }
+}
