@@ -1,5 +1,5 @@
 -- Fragments that are put one after another.
-use Rattle.std.proofs.Common.{◌≡◌, ℕ, ◌+◌, ◌<◌, List, ◌++◌, length, take, drop, get_or, Some, None, ap, sym, ◌∙◌, arith, append_assoc, length-append}
+use Rattle.std.proofs.Common.{◌≡◌, ℕ, ◌+◌, ◌<◌, List, [], ◌++◌, length, take, drop, get_or, Some, None, ap, sym, subst, ◌∙◌, arith, append_assoc, append-nil, length-append}
 use Rattle.std.proofs.lemmas.List.{drop_more, take-append-le}
 use Rattle.std.proofs.Math.Seq.{take-append-add}
 use Rattle.std.specs.declared.option.Option.{Option}
@@ -24,3 +24,24 @@ front_of done part rest all n lt e = (
   omega (arith, ap length e, length-append done (part ++ rest), length-append part rest),
   ap (take (length done + n)) (sym e) ∙ take-append-add done (part ++ rest) n ∙ ap (λ l. done ++ l) (take-append-le n part rest (omega arith)),
 )
+
+pub Appends-none : (known : Option (List ℕ)) → Appends known known []
+Appends-none None = tt
+Appends-none (Some xs) = sym (append-nil xs)
+
+-- a proper front of what was to be put was put
+abbrev pub IsFront : Option (List ℕ) → Option (List ℕ) → List ℕ → Type 0
+IsFront old new all = (n : ℕ) × (n < length all) × Appends old new (take n all)
+
+-- a part that failed, behind what was put
+pub put_part : (old mid new : Option (List ℕ)) (done part rest all : List ℕ) → Appends old mid done → IsFront mid new part → done ++ (part ++ rest) ≡ all → IsFront old new all
+put_part old mid new done part rest all first cut e =
+    let front = front_of done part rest all cut.0 cut.1 e in (
+      length done + cut.0,
+      front.0,
+      subst (λ l. Appends old new l) (sym front.1) (Appends-append old mid new done (take cut.0 part) first cut.2),
+    )
+
+-- the last part failed
+pub last_part : (old mid new : Option (List ℕ)) (done part : List ℕ) → Appends old mid done → IsFront mid new part → IsFront old new (done ++ part)
+last_part old mid new done part first cut = put_part old mid new done part [] (done ++ part) first cut (ap (λ l. done ++ l) (append-nil part))

@@ -1,1 +1,3 @@
 pub mod Fragments
+pub mod Unit
+pub mod Runs

@@ -5,7 +5,7 @@ use Rattle.att_lexer.specs.Pieces.{pieces, spans_of}
 use Rattle.att_lexer.proofs.PiecesLaws.{are_pieces}
 use Rattle.att_grammar.specs.Entries.{kind_of_piece}
 use Rattle.mao_core.specs.Entries.{numbered, entries_of}
-use Rattle.mao_core.specs.Kept.{bytes_at}
+use Rattle.asm_writer.specs.Unit.{bytes_at}
 use Rattle.mao_core.proofs.KeptLaws.{spans_read}
 
 -- at the beginning all entries are left

@@ -1,6 +1,14 @@
 pub mod Known
 pub mod Words
+pub mod Joined
 pub mod KeptLaws
 pub mod EntryLaws
-pub mod NameLaws
 pub mod JudgedLaws
+pub mod NameLaws
+pub mod RemovedLaws
+pub mod NumberedLaws
+pub mod RemovalLaws
+pub mod OutputLaws
+pub mod NoteLaws
+pub mod ToldLaws
+pub mod PreparedLaws

@@ -1,24 +1,111 @@
--- Names that were seen, as the keys of a set of borrowed names.
-use Rattle.std.proofs.Common.{◌≡◌, ℕ, Bool, true, false, cond, List, [], ◌∷◌, ◌++◌, map, refl, sym, ap, ◌∙◌}
-use Rattle.std.specs.Prelude.{bytes_eq, ◌||◌}
-use Rattle.std.specs.List.{list_any}
-use Rattle.std.specs.Borrow.{Bor}
-use Rattle.std.proofs.lemmas.List.{map-append}
-use Rattle.mao_core.specs.Plain.{has}
+-- The names of the functions of a file, where nops go and serials change.
+use Rattle.std.proofs.Common.{◌≡◌, ℕ, Bool, true, false, not, cond, List, [], ◌∷◌, map, filter, Option, Some, None, option_map, refl, sym, ap, ◌∙◌, inl}
+use Rattle.std.specs.Prelude.{◌&&◌, is_some, find}
+use Rattle.std.proofs.lemmas.Bool.{and_parts}
+use Rattle.insn_ir.specs.declared.entry.EntryKind.{EntryKind}
+use Rattle.insn_ir.specs.declared.entry.Entry.{Entry}
+use Rattle.insn_ir.specs.Entries.{kinds_of, is_nop_entry}
+use Rattle.jump_tables.specs.Sections.{Placed, placed}
+use Rattle.jump_tables.specs.Tables.{label_name}
+use Rattle.asm_unit.specs.Functions.{Part, is_label, label_of, name_at, name_of, parts, functions}
+use Rattle.asm_unit.specs.Freeze.{function_names}
+use Rattle.asm_unit.specs.Edits.{without, placed_without, part_without, KeepsFrames, placed_map, part_map, TakesNops}
+use Rattle.asm_unit.proofs.NopLaw.{functions_without_nops}
+use Rattle.asm_unit.proofs.Mapped.{parts_changed}
 
--- a name is among the keys where a key is equal to it
-pub any_is : (n : List ℕ) (xs : List (Bor (List ℕ))) → list_any (λ x. bytes_eq n x.now) xs ≡ has n (map (λ x. x.now) xs)
-any_is n [] = refl
-any_is n (x ∷ xs) = ap (λ b. bytes_eq n x.now || b) (any_is n xs)
+-- an entry of this kind, with no serial
+abbrev strip : Entry → Entry
+strip e = record { serial = 0; kind = e.kind }
 
-map_cond : (b : Bool) (xs : List (Bor (List ℕ))) (v : Bor (List ℕ)) → map (λ x. x.now) (cond b xs (xs ++ v ∷ [])) ≡ cond b (map (λ x. x.now) xs) (map (λ x. x.now) xs ++ v.now ∷ [])
-map_cond true xs v = refl
-map_cond false xs v = map-append (λ x. x.now) xs (v ∷ [])
+strip_keeps : (es : List Entry) → KeepsFrames strip es
+strip_keeps [] = tt
+strip_keeps (e ∷ es) = (inl refl, strip_keeps es)
 
--- the names after one more was added
-pub names_more : (xs ys : List (Bor (List ℕ))) (v : Bor (List ℕ)) → ys ≡ cond (list_any (λ y. bytes_eq v.now y.now) xs) xs (xs ++ v ∷ [])
-    → map (λ x. x.now) ys ≡ cond (has v.now (map (λ x. x.now) xs)) (map (λ x. x.now) xs) (map (λ x. x.now) xs ++ v.now ∷ [])
-names_more xs ys v e =
-    ap (map (λ x. x.now)) e
-    ∙ map_cond (list_any (λ y. bytes_eq v.now y.now) xs) xs v
-    ∙ ap (λ b. cond b (map (λ x. x.now) xs) (map (λ x. x.now) xs ++ v.now ∷ [])) (any_is v.now xs)
+label_stripped : (ps : List Placed) → find is_label (map (placed_map strip) ps) ≡ option_map (placed_map strip) (find is_label ps)
+label_stripped [] = refl
+label_stripped (p ∷ ps) = by_test (is_label p) (label_stripped ps)
+  where
+    by_test : (b : Bool) → find is_label (map (placed_map strip) ps) ≡ option_map (placed_map strip) (find is_label ps) → cond b (Some (placed_map strip p)) (find is_label (map (placed_map strip) ps)) ≡ option_map (placed_map strip) (cond b (Some p) (find is_label ps))
+    by_test true e = refl
+    by_test false e = e
+
+some_stripped : (o : Option Placed) → is_some (option_map (placed_map strip) o) ≡ is_some o
+some_stripped None = refl
+some_stripped (Some p) = refl
+
+name_stripped : (o : Option Placed) → name_at (option_map (placed_map strip) o) ≡ name_at o
+name_stripped None = refl
+name_stripped (Some p) = refl
+
+abbrev names_of_parts : List Part → List (List ℕ)
+names_of_parts qs = map name_of (filter (λ q. is_some (label_of q)) qs)
+
+names_stripped : (qs : List Part) → names_of_parts (map (part_map strip) qs) ≡ names_of_parts qs
+names_stripped [] = refl
+names_stripped (q ∷ qs) =
+    ap (λ b. map name_of (cond b (part_map strip q ∷ filter (λ q. is_some (label_of q)) (map (part_map strip) qs)) (filter (λ q. is_some (label_of q)) (map (part_map strip) qs)))) (ap is_some (label_stripped q.body) ∙ some_stripped (label_of q))
+    ∙ by_test (is_some (label_of q)) (names_stripped qs)
+  where
+    by_test : (b : Bool) → names_of_parts (map (part_map strip) qs) ≡ names_of_parts qs → map name_of (cond b (part_map strip q ∷ filter (λ q. is_some (label_of q)) (map (part_map strip) qs)) (filter (λ q. is_some (label_of q)) (map (part_map strip) qs))) ≡ map name_of (cond b (q ∷ filter (λ q. is_some (label_of q)) qs) (filter (λ q. is_some (label_of q)) qs))
+    by_test true e = ap (λ n. n ∷ names_of_parts (map (part_map strip) qs)) (ap name_at (label_stripped q.body) ∙ name_stripped (label_of q)) ∙ ap (λ ns. name_of q ∷ ns) e
+    by_test false e = e
+
+of_stripped : (es : List Entry) → function_names (placed (map strip es)) ≡ function_names (placed es)
+of_stripped es = ap names_of_parts (parts_changed strip es (strip_keeps es)) ∙ names_stripped (parts (placed es))
+
+by_kinds : (es : List Entry) → map strip es ≡ map (λ k. record { serial = 0; kind = k }) (kinds_of es)
+by_kinds [] = refl
+by_kinds (e ∷ es) = ap (λ xs. strip e ∷ xs) (by_kinds es)
+
+-- the names are made of kinds alone
+pub names_of_kinds : (es fs : List Entry) → kinds_of es ≡ kinds_of fs → function_names (placed es) ≡ function_names (placed fs)
+names_of_kinds es fs k =
+    sym (of_stripped es) ∙ ap (λ xs. function_names (placed xs)) (by_kinds es ∙ ap (map (λ k. record { serial = 0; kind = k })) k ∙ sym (by_kinds fs)) ∙ of_stripped fs
+
+-- nops are no labels
+nop_no_label : (k : EntryKind) → is_nop_entry k ≡ true → is_some (label_name k) ≡ false
+nop_no_label (EntryKind.Label n) e = let no : false ≡ true = e in cc
+nop_no_label (EntryKind.Insn i) e = refl
+nop_no_label (EntryKind.Blank) e = refl
+nop_no_label (EntryKind.Directive d) e = refl
+nop_no_label EntryKind.InlineMark e = refl
+nop_no_label (EntryKind.Opaque ns) e = refl
+
+-- nops alone
+abbrev nops_of : (Entry → Bool) → Entry → Bool
+nops_of gone e = gone e && is_nop_entry e.kind
+
+nops_alone : (gone : Entry → Bool) (es : List Entry) → TakesNops (nops_of gone) es
+nops_alone gone [] = tt
+nops_alone gone (e ∷ es) = ((λ t. (and_parts (gone e) (is_nop_entry e.kind) t).1), nops_alone gone es)
+
+label_stays : (gone : Entry → Bool) (ps : List Placed) → find is_label (placed_without (nops_of gone) ps) ≡ find is_label ps
+label_stays gone [] = refl
+label_stays gone (p ∷ ps) = by_test (nops_of gone p.entry) refl (label_stays gone ps)
+  where
+    by_test : (b : Bool) → nops_of gone p.entry ≡ b → find is_label (placed_without (nops_of gone) ps) ≡ find is_label ps → find is_label (cond (not b) (p ∷ placed_without (nops_of gone) ps) (placed_without (nops_of gone) ps)) ≡ cond (is_label p) (Some p) (find is_label ps)
+    by_test true g rest =
+        rest ∙ ap (λ b. cond b (Some p) (find is_label ps)) (sym (nop_no_label p.entry.kind (and_parts (gone p.entry) (is_nop_entry p.entry.kind) g).1))
+    by_test false g rest = ap (λ o. cond (is_label p) (Some p) o) rest
+
+names_stay : (gone : Entry → Bool) (fs : List Part) → map name_of (map (part_without (nops_of gone)) fs) ≡ map name_of fs
+names_stay gone [] = refl
+names_stay gone (f ∷ fs) =
+    ap (λ n. n ∷ map name_of (map (part_without (nops_of gone)) fs)) (ap name_at (label_stays gone f.body)) ∙ ap (λ ns. name_of f ∷ ns) (names_stay gone fs)
+
+true_alone : (a b : Bool) → (a ≡ true → b ≡ true) → a ≡ (a && b)
+true_alone true b h = sym (h refl)
+true_alone false b h = refl
+
+same_gone : (gone : Entry → Bool) (es : List Entry) → TakesNops gone es → without gone es ≡ without (nops_of gone) es
+same_gone gone [] h = refl
+same_gone gone (e ∷ es) h =
+    ap (λ b. cond (not b) (e ∷ without gone es) (without gone es)) (true_alone (gone e) (is_nop_entry e.kind) h.0)
+    ∙ ap (λ l. cond (not (nops_of gone e)) (e ∷ l) l) (same_gone gone es h.1)
+
+-- the names stay where nothing but nops goes
+pub names_without_nops : (gone : Entry → Bool) (es : List Entry) → TakesNops gone es → function_names (placed (without gone es)) ≡ function_names (placed es)
+names_without_nops gone es h =
+    ap (λ xs. function_names (placed xs)) (same_gone gone es h)
+    ∙ ap (map name_of) (functions_without_nops (nops_of gone) es (nops_alone gone es))
+    ∙ names_stay gone (functions (placed es))

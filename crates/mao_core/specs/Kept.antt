@@ -1,26 +1,15 @@
 -- What is left of a text where pieces are removed by their serials.
-use Rattle.std.specs.Prelude.{ℕ, Bool, false, not, nat_eq, ◌+◌, ◌≤◌, List, [], ◌∷◌, ◌++◌, length, take, drop, map, filter, ◌==◌, if◌then◌else◌}
+use Rattle.std.specs.Prelude.{ℕ, Bool, not, nat_eq, ◌+◌, ◌≤◌, List, length}
 use Rattle.std.specs.List.{All, concat, list_any}
 use Rattle.att_lexer.specs.declared.pieces.Span.{Span}
 use Rattle.att_lexer.specs.Pieces.{pieces}
 use Rattle.att_lexer.specs.Chosen.{chosen}
-use Rattle.insn_ir.specs.declared.entry.Entry.{Entry}
-use Rattle.insn_ir.specs.Entries.{is_nop_entry}
-
--- the bytes of a text that a span names
-abbrev pub bytes_at : List ℕ → Span → List ℕ
-bytes_at text span = take span.len (drop span.start text)
 
 abbrev pub LieWithin : List ℕ → List Span → Type 0
 LieWithin text spans = All (λ s. s.start + s.len ≤ length text) spans
 
 abbrev pub is_among : ℕ → List ℕ → Bool
 is_among s serials = list_any (nat_eq s) serials
-
--- whether a number stands first
-abbrev pub begins_with : ℕ → List ℕ → Bool
-begins_with n [] = false
-begins_with n (x ∷ xs) = x == n
 
 -- what is left, counted from a serial on, where the members with these serials go
 abbrev pub remaining_from : {A : Type 0} → ℕ → List ℕ → List A → List A
@@ -33,7 +22,3 @@ remaining removed xs = remaining_from 1 removed xs
 -- the text of the pieces that are not removed
 abbrev pub text_without : List ℕ → List ℕ → List ℕ
 text_without removed text = concat (remaining removed (pieces text))
-
--- the serials of the nops, in order
-abbrev pub nop_serials : List Entry → List ℕ
-nop_serials es = map (λ e. e.serial) (filter (λ e. is_nop_entry e.kind) es)

@@ -1,5 +1,11 @@
 pub mod Input
 pub mod Outcome
+pub mod Told
 pub mod Kept
 pub mod Entries
-pub mod Plain
+pub mod Notes
+pub mod Removed
+pub mod Behaves
+pub mod Prepared
+pub mod Delivered
+pub mod Removal

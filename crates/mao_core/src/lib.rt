@@ -1,12 +1,13 @@
-//! The top call: words, a source and a sink in, a report out.
+//! The top call: words, a source and two sinks in, a report out.
 #![tactic(auto)]
 
 mod entries;
-mod judging;
-mod names;
-mod plain;
+mod lines;
+mod notes;
+mod preparing;
 mod reading;
+mod removal;
+mod told;
 mod top;
-mod writing;
 
 pub use top::{Report, Status, mao};

@@ -1,19 +1,17 @@
 // The top call.
-ghost use Rattle.std.specs.Prelude.{◌≡◌, ◌≢◌, ◌≤◌, ◌<◌, ◌↔◌, ◌⊎◌, ℕ, List, [], map, length, take, IsTrue, IfOk, IfErr, OnErr};
-ghost use Rattle.std.specs.Io.KnownBytes.{Appends};
-ghost use Rattle.att_lexer.specs.Pieces.{pieces, spans_of};
+ghost use Rattle.std.specs.Prelude.{◌≡◌, ◌≢◌, ◌↔◌, ◌⊎◌, [], map, IsTrue};
 ghost use Rattle.mao_outside.specs.Causes.{Rose};
-ghost use Rattle.mao_core.specs.Entries.{Ascend};
 ghost use Rattle.mao_core.specs.Input.{IsReadInPart};
-ghost use Rattle.mao_core.specs.Kept.{LieWithin, text_without};
-ghost use Rattle.mao_core.specs.Outcome.{IsCommand, IsWithinLimits, IsJudged, IsFiltered, IsCutShort, IsSeenTooBig, Refuses};
+ghost use Rattle.mao_core.specs.Outcome.{IsCommand, IsWithinLimits, IsFiltered, IsCutInNotes, IsCutShort, IsSeenTooBig};
+ghost use Rattle.mao_core.specs.Prepared.{IsPrepared};
+ghost use Rattle.mao_core.specs.Delivered.{IsDelivered};
+ghost use Rattle.mao_core.specs.Told.{status_line, IsOffered};
 
-use crate::judging::nops_of_text;
-use crate::reading::{InputFault, read_all};
-use crate::writing::write_kept;
-use att_lexer::{CutFault, SpanList, cut_pieces};
+use crate::preparing::{Prepared, prepare};
+use crate::told::tell;
+use asm_writer::write_unit;
 use insn_ir::SerialList;
-use mao_outside::{Sink, Source};
+use mao_outside::{Sink, Source, put_all};
 use std::alloc::Global;
 
 /// How a run ended.
@@ -29,8 +27,10 @@ pub enum Status {
     TooBig,
     /// Memory ran out before the first byte was written.
     NoMemory,
-    /// The sink counted a fault.
+    /// The sink of the text counted a fault.
     WriteFault,
+    /// The sink of the notes counted a fault, when the whole text was written.
+    NotesFault,
 }
 
 /// What a run came to.
@@ -39,14 +39,6 @@ pub struct Report {
     pub status: Status,
     /// The serials of the entries that were left out, in order. None where nothing was written.
     pub removed: SerialList,
-}
-
-// A text that was read to its end, and what is to go of it.
-#[derive(Drop)]
-struct Judged {
-    text: Vec<u8>,
-    spans: SpanList,
-    removed: SerialList,
 }
 
 fn is_command(words: &[&str]) -> bool
@@ -58,101 +50,82 @@ fn is_command(words: &[&str]) -> bool
     }
 }
 
-// The text of a source, and what is to go of it.
-fn judge<S: Source>(alloc: Global, source: &mut S) -> Result<Judged, Status>
-    ensures judged { IfOk result (λ j. IsJudged (S.left source.old) (S.left source.new) j.text.items j.removed) }
-    ensures spans { IfOk result (λ j. LieWithin j.text.items j.spans) }
-    ensures cut { IfOk result (λ j. j.spans ≡ spans_of 0 (pieces j.text.items)) }
-    ensures ascend { IfOk result (λ j. Ascend 1 j.removed) }
-    ensures later { S.faults source.old ≤ S.faults source.new }
-    ensures read { IsReadInPart (S.left source.old) (S.left source.new) }
-    ensures refused { IfErr result (λ status. Refuses status (S.left source.old) (S.left source.new)
-        (S.faults source.old) (S.faults source.new)) }
+// The report of a run that wrote nothing.
+fn refused<N: Sink>(alloc: Global, notes: &mut N, status: Status) -> Report
+    ensures report { (result.status ≡ status) × (result.removed ≡ []) }
+    ensures told { IsOffered (N.taken notes.old) (N.taken notes.new) (N.faults notes.old) (N.faults notes.new) (status_line status) }
 {
-    let text = match read_all(alloc, source) {
-        Ok(text) => text,
-        Err(InputFault::Fault) => return Err(Status::ReadFault),
-        Err(InputFault::TooBig) => return Err(Status::TooBig),
-        Err(InputFault::NoMemory) => return Err(Status::NoMemory),
-    };
-    let cut = match cut_pieces(alloc, &text) {
-        Ok(cut) => cut,
-        Err(CutFault::TooManyPieces { count: _ }) => return Err(Status::TooBig),
-        Err(CutFault::NoMemory) => return Err(Status::NoMemory),
-    };
-    match nops_of_text(alloc, &text, &cut) {
-        Ok(removed) => Ok(Judged {
-            text,
-            spans: cut.spans,
-            removed,
-        }),
-        Err(_) => Err(Status::NoMemory),
+    tell(notes, status);
+    Report {
+        status,
+        removed: SerialList::new(alloc),
     }
 }
 
-/// Copies the source to the sink without the nops of a plain file, where the words after the program's name are
-/// `--mao=NOPKILL`. A file that is not plain is copied as it is.
+// The text and then the notes, put into their sinks.
+fn deliver<O: Sink, N: Sink>(out: &mut O, notes: &mut N, prepared: Prepared) -> Report
+    requires { IsPrepared prepared }
+    ensures removed { result.removed ≡ prepared.removed }
+    ensures status { IsDelivered result.status prepared (O.taken out.old) (O.taken out.new) (O.faults out.old) (O.faults out.new)
+        (N.taken notes.old) (N.taken notes.new) (N.faults notes.old) (N.faults notes.new) }
+{
+    let status = match write_unit(&prepared.unit, &prepared.text, out) {
+        Ok(()) => match put_all(notes, &prepared.notes) {
+            Ok(()) => Status::Fine,
+            Err(_) => Status::NotesFault,
+        },
+        Err(_) => {
+            tell(notes, Status::WriteFault);
+            Status::WriteFault
+        }
+    };
+    Report {
+        status,
+        removed: prepared.removed,
+    }
+}
+
+/// Copies the source to the sink without the nops of its clear functions, where the words after the program's name are
+/// `--mao=NOPKILL`, and tells on the notes which functions are kept as they are. A file that a cause keeps as it is
+/// is copied. On a status other than Fine and NotesFault the notes are offered one line in place of these.
 ///
 /// All that can want memory is done before the first byte is written.
-pub fn mao<S: Source, O: Sink>(alloc: Global, words: &[&str], source: &mut S, out: &mut O) -> Report
+pub fn mao<S: Source, O: Sink, N: Sink>(
+    alloc: Global,
+    words: &[&str],
+    source: &mut S,
+    out: &mut O,
+    notes: &mut N,
+) -> Report
     ensures usage { result.status ≡ Status.Usage ↔ (IsCommand (map (λ w. w.now) words.now) → ⊥) }
     ensures idle { result.status ≡ Status.Usage → (source.new ≡ source.old) × (out.new ≡ out.old) }
     ensures read { IsReadInPart (S.left source.old) (S.left source.new) }
     ensures fine { result.status ≡ Status.Fine
-        → IsFiltered (S.left source.old) (S.left source.new) (O.taken out.old) (O.taken out.new) result.removed }
+        → IsFiltered (S.left source.old) (S.left source.new) (O.taken out.old) (O.taken out.new)
+        (N.taken notes.old) (N.taken notes.new) result.removed }
     ensures read_fault { result.status ≡ Status.ReadFault → Rose (S.faults source.old) (S.faults source.new) }
     ensures too_big { result.status ≡ Status.TooBig → IsSeenTooBig (S.left source.old) (S.left source.new) }
     ensures write_fault { result.status ≡ Status.WriteFault → Rose (O.faults out.old) (O.faults out.new) }
     ensures cut_short { result.status ≡ Status.WriteFault
         → IsCutShort (S.left source.old) (S.left source.new) (O.taken out.old) (O.taken out.new) result.removed }
-    ensures unwritten { result.status ≢ Status.Fine → result.status ≢ Status.WriteFault
+    ensures notes_fault { result.status ≡ Status.NotesFault → Rose (N.faults notes.old) (N.faults notes.new) }
+    ensures cut_in_notes { result.status ≡ Status.NotesFault
+        → IsCutInNotes (S.left source.old) (S.left source.new) (O.taken out.old) (O.taken out.new)
+        (N.taken notes.old) (N.taken notes.new) result.removed }
+    ensures unwritten { result.status ≢ Status.Fine → result.status ≢ Status.WriteFault → result.status ≢ Status.NotesFault
         → (out.new ≡ out.old) × (result.removed ≡ []) }
+    ensures told { result.status ≢ Status.Fine → result.status ≢ Status.NotesFault
+        → IsOffered (N.taken notes.old) (N.taken notes.new) (N.faults notes.old) (N.faults notes.new) (status_line result.status) }
     ensures complete { IsCommand (map (λ w. w.now) words.now) → IsWithinLimits (S.left source.old)
         → (Rose (S.faults source.old) (S.faults source.new) → ⊥) → (Rose (O.faults out.old) (O.faults out.new) → ⊥)
+        → (Rose (N.faults notes.old) (N.faults notes.new) → ⊥)
         → (result.status ≡ Status.Fine) ⊎ (result.status ≡ Status.NoMemory) }
 {
     if !is_command(words) {
-        return Report {
-            status: Status::Usage,
-            removed: SerialList::new(alloc),
-        };
+        return refused(alloc, notes, Status::Usage);
     }
-    match judge(alloc, source) {
-        Err(status) => Report {
-            status,
-            removed: SerialList::new(alloc),
-        },
-        Ok(judged) => written(out, judged),
-    }
-}
-
-// The pieces that stay, put into the sink.
-fn written<O: Sink>(out: &mut O, judged: Judged) -> Report
-    requires spans { LieWithin judged.text.items judged.spans }
-    requires cut { judged.spans ≡ spans_of 0 (pieces judged.text.items) }
-    requires ascend { Ascend 1 judged.removed }
-    requires count { length (pieces judged.text.items) ≤ 2000000 }
-    ensures status { (result.status ≡ Status.Fine) ⊎ (result.status ≡ Status.WriteFault) }
-    ensures removed { result.removed ≡ judged.removed }
-    ensures fine { result.status ≡ Status.Fine
-        → Appends (O.taken out.old) (O.taken out.new) (text_without judged.removed judged.text.items) }
-    ensures write_fault { result.status ≡ Status.WriteFault → Rose (O.faults out.old) (O.faults out.new) }
-    ensures cut_short { result.status ≡ Status.WriteFault
-        → ((n : ℕ) × (n < length (text_without judged.removed judged.text.items))
-        × Appends (O.taken out.old) (O.taken out.new) (take n (text_without judged.removed judged.text.items))) }
-{
-    let written = write_kept(
-        out,
-        &judged.text,
-        judged.spans.as_slice(),
-        judged.removed.as_slice(),
-    );
-    let status = match written {
-        Ok(()) => Status::Fine,
-        Err(_) => Status::WriteFault,
-    };
-    Report {
-        status,
-        removed: judged.removed,
+    match prepare(alloc, source) {
+        Ok(prepared) => deliver(out, notes, prepared),
+        Err(status) => refused(alloc, notes, status),
     }
 }

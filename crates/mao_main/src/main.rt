@@ -1,9 +1,9 @@
-// The program: standard input to standard output, by the words of the command line.
+// The program: standard input to standard output, and notes to standard error, by the words of the command line.
 #![tactic(auto)]
 
-ghost use Rattle.std.specs.Prelude.{◌≡◌, ◌↔◌, map, option_map};
+ghost use Rattle.std.specs.Prelude.{◌≡◌, ◌↔◌, map};
 ghost use Rattle.mao_core.specs.Outcome.{IsCommand};
-ghost use Rattle.mao_main.specs.Exit.{exit_number, message_text};
+ghost use Rattle.mao_main.specs.Exit.{exit_number};
 
 use mao_core::{Status, mao};
 use mao_outside::{StdSink, StdSource};
@@ -23,20 +23,7 @@ fn exit_of(status: Status) -> u8
         Status::TooBig => 3,
         Status::NoMemory => 4,
         Status::WriteFault => 5,
-    }
-}
-
-// What a refusal says on standard error.
-fn message_of(status: Status) -> Option<&'static str>
-    ensures { option_map (λ text. text.now) result ≡ message_text status }
-{
-    match status {
-        Status::Fine => None,
-        Status::Usage => Some("mao: usage"),
-        Status::ReadFault => Some("mao: read fault"),
-        Status::TooBig => Some("mao: input too big"),
-        Status::NoMemory => Some("mao: out of memory"),
-        Status::WriteFault => Some("mao: write fault"),
+        Status::NotesFault => 6,
     }
 }
 
@@ -46,7 +33,8 @@ fn status_of(rt: &HostRuntime, words: &[&str]) -> Status
 {
     let mut source = StdSource::new(rt.stdin());
     let mut out = StdSink::new(rt.stdout());
-    mao(rt.alloc(), words, &mut source, &mut out).status
+    let mut notes = StdSink::new(rt.stderr());
+    mao(rt.alloc(), words, &mut source, &mut out, &mut notes).status
 }
 
 fn run(rt: &HostRuntime) -> u8 {
@@ -63,12 +51,7 @@ fn run(rt: &HostRuntime) -> u8 {
             return exit_of(Status::NoMemory);
         }
     }
-    let status = status_of(rt, &words);
-    if let Some(message) = message_of(status) {
-        // A fault of standard error changes nothing.
-        let _ = eprintln!(rt; "{message}");
-    }
-    exit_of(status)
+    exit_of(status_of(rt, &words))
 }
 
 fn main(rt: HostRuntime) -> ExitCode {
@@ -77,3 +60,5 @@ fn main(rt: HostRuntime) -> ExitCode {
 
 #[cfg(test)]
 mod tests;
+#[cfg(test)]
+mod unit_tests;

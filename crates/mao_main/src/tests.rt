@@ -15,52 +15,149 @@ const WITH_NOPS: &[u8; 120] =
 const WITHOUT_NOPS: &[u8; 105] =
     b"\t.text\n\t.p2align 4\n\t.type f, @function\nf:\n\tmovl $1, %eax\n\tje .L2\n\taddq $-1, %rax\n.L2:\n\tret\n\t.size f, .-f\n";
 
-// The report on a text, and what the sink took.
-fn filtered(rt: &(impl Abort + AllocGlobal), text: &[u8]) -> Result<(Report, Vec<u8>), Fail> {
+// What a run came to: the report, and what each sink took.
+#[derive(Drop)]
+struct Outcome {
+    report: Report,
+    taken: Vec<u8>,
+    noted: Vec<u8>,
+}
+
+fn filtered(rt: &(impl Abort + AllocGlobal), text: &[u8]) -> Result<Outcome, Fail> {
     let mut source = MemSource::new(text.to_vec(rt.alloc())?, 1000, Vec::new(rt.alloc()));
     let mut out = MemSink::new(rt.alloc(), text.len(), 64, Vec::new(rt.alloc()))?;
-    let report = mao(rt.alloc(), &COMMAND, &mut source, &mut out);
-    Ok((report, out.taken().to_vec(rt.alloc())?))
+    let mut notes = MemSink::new(rt.alloc(), 1000, 64, Vec::new(rt.alloc()))?;
+    let report = mao(rt.alloc(), &COMMAND, &mut source, &mut out, &mut notes);
+    Ok(Outcome {
+        report,
+        taken: out.taken().to_vec(rt.alloc())?,
+        noted: notes.taken().to_vec(rt.alloc())?,
+    })
 }
 
 #[test]
-fn nops_of_a_plain_file_go(rt: HostRuntime) -> Result<(), Fail> {
-    let cases: [(&[u8], &[u8], &[u32]); 8] = [
-        (WITH_NOPS, WITHOUT_NOPS, &[7, 10, 13]),
+fn nops_of_clear_functions_go(rt: HostRuntime) -> Result<(), Fail> {
+    let cases: [(&[u8], &[u8], &[u32], &[u8]); 6] = [
+        (
+            WITH_NOPS,
+            WITHOUT_NOPS,
+            &[7, 10, 13],
+            b"step 1 NOPKILL: 3 edits\n",
+        ),
         (
             b"\t.text\n\t.p2align 4\n\t.type f, @function\nf:\n\tnop; nop; ret\n\t.size f, .-f\n",
             b"\t.text\n\t.p2align 4\n\t.type f, @function\nf:\n ret\n\t.size f, .-f\n",
             &[6, 7],
+            b"step 1 NOPKILL: 2 edits\n",
         ),
         (
             b".text\r\n.type f,@function\r\nf: nop\r\n\tret\r\n.size f,.-f",
             b".text\r\n.type f,@function\r\nf:\tret\r\n.size f,.-f",
             &[4],
-        ),
-        (
-            b"\t.text\n\t.p2align 4\n\t.type f, @function\nf:\n\taddsd %xmm1, %xmm0\n\tnop\n\tret\n\t.size f, .-f\n",
-            b"\t.text\n\t.p2align 4\n\t.type f, @function\nf:\n\taddsd %xmm1, %xmm0\n\tnop\n\tret\n\t.size f, .-f\n",
-            &[],
-        ),
-        (
-            b".text\n.type f,@function\nf:\nL: nop\nL: ret\n.size f,.-f\n",
-            b".text\n.type f,@function\nf:\nL: nop\nL: ret\n.size f,.-f\n",
-            &[],
+            b"step 1 NOPKILL: 1 edits\n",
         ),
         (
             b".text\n.type f,@function\nf: nop\njmp f\n.size f,.-f\n",
-            b".text\n.type f,@function\nf: nop\njmp f\n.size f,.-f\n",
-            &[],
+            b".text\n.type f,@function\nf:jmp f\n.size f,.-f\n",
+            &[4],
+            b"step 1 NOPKILL: 1 edits\n",
         ),
-        (b"", b"", &[]),
-        (b"\tnop\n", b"\tnop\n", &[]),
+        (b"", b"", &[], b"step 1 NOPKILL: 0 edits\n"),
+        (b"\tnop\n", b"\tnop\n", &[], b"step 1 NOPKILL: 0 edits\n"),
     ];
-    for (text, wanted, removed) in cases {
-        let (report, taken) = filtered(&rt, text)?;
-        assert_eq!(rt; report.status, Status::Fine);
-        assert_eq!(rt; report.removed.as_slice(), removed);
-        assert_eq!(rt; taken.as_slice(), wanted);
+    for (text, wanted, removed, noted) in cases {
+        let outcome = filtered(&rt, text)?;
+        assert_eq!(rt; outcome.report.status, Status::Fine);
+        assert_eq!(rt; outcome.report.removed.as_slice(), removed);
+        assert_eq!(rt; outcome.taken.as_slice(), wanted);
+        assert_eq!(rt; outcome.noted.as_slice(), noted);
     }
+    Ok(())
+}
+
+// A file of one function, which is kept as it is, and the line that says why.
+const KEPT: [(&[u8], &[u8]); 9] = [
+    (
+        b"\t.text\n\t.p2align 4\n\t.type f, @function\nf:\n\taddsd %xmm1, %xmm0\n\tnop\n\tret\n\t.size f, .-f\n",
+        b"f unchanged: unknown line, line 5\n",
+    ),
+    (
+        b"\t.text\n\t.p2align 4\n\t.type f, @function\nf:\n\tleaq .L2(%rip), %rax\n.L2:\n\tnop\n\tret\n\t.size f, .-f\n",
+        b"f unchanged: label as value, line 5\n",
+    ),
+    (
+        b"\t.macro m\n\t.text\n\t.type f, @function\nf:\n\tnop\n\tret\n\t.size f, .-f\n",
+        b"file unchanged: line 1\n",
+    ),
+    (
+        b"\t.text\n\t.p2align 4\n\t.type f, @function\nf:\n.L1:\n\tjmp g1\n\tnop\n\tret\n\t.size f, .-f\n\t.data\ng1:\n\t.quad 0\n",
+        b"f unchanged: jump elsewhere, line 6\n",
+    ),
+    (
+        b"\t.text\n\t.p2align 4\n\t.type f, @function\nf:\n#APP\n\tnop\n#NO_APP\n\tret\n\t.size f, .-f\n",
+        b"f unchanged: inline assembly, line 5\n",
+    ),
+    (
+        b"\t.text\n\t.p2align 4\n\t.type f, @function\nf:\n\t.byte 1\n\tnop\n\tret\n\t.size f, .-f\n",
+        b"f unchanged: data in code, line 5\n",
+    ),
+    (
+        b"\t.text\n\t.p2align 4\n\t.type f, @function\nf:\n\tleaq .LX(%rip), %rax\n\tjmp *%rax\n\t.set .LX, .L3\n.L3:\n\tnop\n\tret\n\t.size f, .-f\n",
+        b"f unchanged: label used outside, line 7\n",
+    ),
+    (
+        b".text\n.type f,@function\nf:\nL: nop\nL: ret\n.size f,.-f\n",
+        b"file unchanged: line 5\n",
+    ),
+    (
+        b".text\n.type f,@function\nf:\n.cfi_lsda 0,.L0\nnop\nret\n.size f,.-f\n",
+        b"f unchanged: exception table, line 4\n",
+    ),
+];
+
+#[test]
+fn functions_with_a_cause_are_kept_and_noted(rt: HostRuntime) -> Result<(), Fail> {
+    for (text, why) in KEPT {
+        let outcome = filtered(&rt, text)?;
+        assert_eq!(rt; outcome.report.status, Status::Fine);
+        assert!(rt; outcome.report.removed.as_slice().is_empty());
+        assert_eq!(rt; outcome.taken.as_slice(), text);
+        let mut noted = why.to_vec(rt.alloc())?;
+        noted.extend_from_slice(b"step 1 NOPKILL: 0 edits\n")?;
+        assert_eq!(rt; outcome.noted.as_slice(), noted.as_slice());
+    }
+    Ok(())
+}
+
+#[test]
+fn each_function_is_judged_by_itself(rt: HostRuntime) -> Result<(), Fail> {
+    let text =
+        b".text\n.type f,@function\nf: nop\naddsd %xmm1, %xmm0\nret\n.size f,.-f\n.type g,@function\ng: nop\nret\n.size g,.-g\n.type h,@function\nh: fld1\nnop\nret\n.size h,.-h\n";
+    let wanted =
+        b".text\n.type f,@function\nf: nop\naddsd %xmm1, %xmm0\nret\n.size f,.-f\n.type g,@function\ng:ret\n.size g,.-g\n.type h,@function\nh: fld1\nnop\nret\n.size h,.-h\n";
+    let outcome = filtered(&rt, text)?;
+    assert_eq!(rt; outcome.report.removed.as_slice(), [10].as_slice());
+    assert_eq!(rt; outcome.taken.as_slice(), wanted.as_slice());
+    assert_eq!(rt;
+        outcome.noted.as_slice(),
+        b"f unchanged: unknown line, line 4\nh unchanged: unknown line, line 12\nstep 1 NOPKILL: 1 edits\n".as_slice()
+    );
+    Ok(())
+}
+
+// GCC's form: a function whose jump table stands in another section.
+const PICK: &[u8] =
+    b"\t.file\t\"pick.c\"\n\t.text\n\t.p2align 4\n\t.globl\tpick\n\t.type\tpick, @function\npick:\n.LFB0:\n\t.cfi_startproc\n\tendbr64\n\tcmpl\t$2, %edi\n\tja\t.L5\n\tmovl\t%edi, %edi\n\tnotrack jmp\t*.L4(,%rdi,8)\n\t.section\t.rodata\n\t.align 8\n\t.align 4\n.L4:\n\t.quad\t.L7\n\t.quad\t.L6\n\t.quad\t.L3\n\t.text\n\t.p2align 4,,10\n\t.p2align 3\n.L7:\n\tleal\t1(%rsi), %eax\n\tret\n\t.p2align 4,,10\n\t.p2align 3\n.L6:\n\tmovl\t%esi, %eax\n\tsubl\t$7, %eax\n\ttestl\t%eax, %eax\n\tjs\t.L5\n\tret\n\t.p2align 4,,10\n\t.p2align 3\n.L3:\n\tleal\t(%rsi,%rsi,2), %eax\n\tret\n.L5:\n\txorl\t%eax, %eax\n\tret\n\t.cfi_endproc\n.LFE0:\n\t.size\tpick, .-pick\n\t.ident\t\"GCC: (GNU) 13.2.0\"\n\t.section\t.note.GNU-stack,\"\",@progbits\n";
+
+#[test]
+fn a_jump_table_keeps_its_function_clear(rt: HostRuntime) -> Result<(), Fail> {
+    let outcome = filtered(&rt, PICK)?;
+    assert_eq!(rt; outcome.report.status, Status::Fine);
+    assert_eq!(rt; outcome.taken.as_slice(), PICK);
+    assert_eq!(rt;
+        outcome.noted.as_slice(),
+        b"step 1 NOPKILL: 0 edits\n".as_slice()
+    );
     Ok(())
 }
 
@@ -76,29 +173,66 @@ fn wrong_words_are_usage_and_read_nothing(rt: HostRuntime) -> Result<(), Fail> {
     for words in cases {
         let mut source = MemSource::new(WITH_NOPS.to_vec(rt.alloc())?, 1000, Vec::new(rt.alloc()));
         let mut out = MemSink::new(rt.alloc(), 200, 64, Vec::new(rt.alloc()))?;
+        let mut notes = MemSink::new(rt.alloc(), 200, 64, Vec::new(rt.alloc()))?;
         assert_eq!(rt;
-            mao(rt.alloc(), words, &mut source, &mut out).status,
+            mao(rt.alloc(), words, &mut source, &mut out, &mut notes).status,
             Status::Usage
         );
-        let report = mao(rt.alloc(), &COMMAND, &mut source, &mut out);
+        assert_eq!(rt; notes.taken(), b"mao: usage\n".as_slice());
+        let report = mao(rt.alloc(), &COMMAND, &mut source, &mut out, &mut notes);
         assert_eq!(rt; report.status, Status::Fine);
         assert_eq!(rt; out.taken(), WITHOUT_NOPS.as_slice());
     }
     Ok(())
 }
 
+// The status of a run whose streams fail at these calls, and what its sinks took.
+fn with_faults(
+    rt: &(impl Abort + AllocGlobal),
+    reads: &[u64],
+    writes: &[u64],
+    tells: &[u64],
+) -> Result<Outcome, Fail> {
+    let mut source = MemSource::new(
+        WITH_NOPS.to_vec(rt.alloc())?,
+        1000,
+        reads.to_vec(rt.alloc())?,
+    );
+    let mut out = MemSink::new(rt.alloc(), 200, 1, writes.to_vec(rt.alloc())?)?;
+    let mut notes = MemSink::new(rt.alloc(), 200, 1, tells.to_vec(rt.alloc())?)?;
+    let report = mao(rt.alloc(), &COMMAND, &mut source, &mut out, &mut notes);
+    Ok(Outcome {
+        report,
+        taken: out.taken().to_vec(rt.alloc())?,
+        noted: notes.taken().to_vec(rt.alloc())?,
+    })
+}
+
 #[test]
 fn faults_of_the_streams_are_told(rt: HostRuntime) -> Result<(), Fail> {
-    let mut source = MemSource::new(WITH_NOPS.to_vec(rt.alloc())?, 1000, [1].to_vec(rt.alloc())?);
-    let mut out = MemSink::new(rt.alloc(), 200, 1, Vec::new(rt.alloc()))?;
-    let report = mao(rt.alloc(), &COMMAND, &mut source, &mut out);
-    assert_eq!(rt; report.status, Status::ReadFault);
-    assert_eq!(rt; out.taken(), b"".as_slice());
-    let mut source = MemSource::new(WITH_NOPS.to_vec(rt.alloc())?, 1000, Vec::new(rt.alloc()));
-    let mut out = MemSink::new(rt.alloc(), 200, 1, [2].to_vec(rt.alloc())?)?;
-    let report = mao(rt.alloc(), &COMMAND, &mut source, &mut out);
-    assert_eq!(rt; report.status, Status::WriteFault);
-    assert_eq!(rt; out.taken(), b"\t".as_slice());
+    let read = with_faults(&rt, &[1], &[], &[])?;
+    assert_eq!(rt; read.report.status, Status::ReadFault);
+    assert_eq!(rt; read.taken.as_slice(), b"".as_slice());
+    assert_eq!(rt; read.noted.as_slice(), b"mao: read fault\n".as_slice());
+    let write = with_faults(&rt, &[], &[2], &[])?;
+    assert_eq!(rt; write.report.status, Status::WriteFault);
+    assert_eq!(rt; write.taken.as_slice(), b"\t".as_slice());
+    assert_eq!(rt; write.noted.as_slice(), b"mao: write fault\n".as_slice());
+    Ok(())
+}
+
+#[test]
+fn a_fault_of_the_notes_comes_behind_the_whole_text(rt: HostRuntime) -> Result<(), Fail> {
+    let first = with_faults(&rt, &[], &[], &[1])?;
+    assert_eq!(rt; first.report.status, Status::NotesFault);
+    assert_eq!(rt; first.taken.as_slice(), WITHOUT_NOPS.as_slice());
+    assert_eq!(rt; first.noted.as_slice(), b"".as_slice());
+    let later = with_faults(&rt, &[], &[], &[5])?;
+    assert_eq!(rt; later.report.status, Status::NotesFault);
+    assert_eq!(rt; later.noted.as_slice(), b"step".as_slice());
+    let both = with_faults(&rt, &[1], &[], &[2])?;
+    assert_eq!(rt; both.report.status, Status::ReadFault);
+    assert_eq!(rt; both.noted.as_slice(), b"m".as_slice());
     Ok(())
 }
 
@@ -128,7 +262,8 @@ fn limits_are_exact(rt: HostRuntime) -> Result<(), Fail> {
         let text = repeated(&rt, first, rest, len)?;
         let mut source = MemSource::new(text, 1_000_000, Vec::new(rt.alloc()));
         let mut out = MemSink::new(rt.alloc(), len, 1_000_000, Vec::new(rt.alloc()))?;
-        let report = mao(rt.alloc(), &COMMAND, &mut source, &mut out);
+        let mut notes = MemSink::new(rt.alloc(), 200, 200, Vec::new(rt.alloc()))?;
+        let report = mao(rt.alloc(), &COMMAND, &mut source, &mut out, &mut notes);
         assert_eq!(rt; report.status, status);
         let taken = if status == Status::Fine { len } else { 0 };
         assert_eq!(rt; out.taken().len(), taken);

@@ -1,7 +1,7 @@
 use Rattle.std.proofs.Common.{◌++◌, ◌∙◌, ap, map}
 use Rattle.att_grammar.specs.Entries.{kind_of_piece}
 use Rattle.mao_core.specs.Entries.{numbered}
-use Rattle.mao_core.specs.Kept.{bytes_at}
+use Rattle.asm_writer.specs.Unit.{bytes_at}
 use Rattle.mao_core.proofs.EntryLaws.{entries_all}
 use Rattle.mao_core.proofs.entries.read_entries.Goals as goal
 

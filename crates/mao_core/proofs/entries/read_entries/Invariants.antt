@@ -1,7 +1,7 @@
 use Rattle.std.proofs.Common.{◌≡◌, ◌+◌, ◌++◌, drop, map}
 use Rattle.att_grammar.specs.Entries.{kind_of_piece}
 use Rattle.mao_core.specs.Entries.{numbered, entries_of}
-use Rattle.mao_core.specs.Kept.{bytes_at}
+use Rattle.asm_writer.specs.Unit.{bytes_at}
 use Rattle.mao_core.proofs.entries.read_entries.Given as goal
 
 -- the entries so far, and those of the pieces that are left, are all of them

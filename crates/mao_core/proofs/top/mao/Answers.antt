@@ -1,0 +1,9 @@
+use Rattle.mao_core.proofs.ToldLaws.{told_delivered}
+use Rattle.mao_core.proofs.top.mao.Goals as goal
+
+pub returns-in-Ok-clause-told : goal.returns-in-Ok-clause-told
+returns-in-Ok-clause-told g c = λ fine noted.
+    told_delivered c.deliver.result.status c.in-Ok.prepared
+    (g.O.Sink.taken c.args.out.now) (g.O.Sink.taken c.deliver.new.out) (g.O.Sink.faults c.args.out.now) (g.O.Sink.faults c.deliver.new.out)
+    (g.N.Sink.taken c.args.notes.now) (g.N.Sink.taken c.deliver.new.notes) (g.N.Sink.faults c.args.notes.now) (g.N.Sink.faults c.deliver.new.notes)
+    c.deliver.ensures.status fine noted
