@@ -3,10 +3,10 @@
 
 mao:
 	cd crates/mao_main && rt run -- --mao=NOPKILL < /dev/null
-	ln -sf crates/mao_main/out/mao_main mao
+	cp crates/mao_main/out/mao_main mao
 
 check:
 	.ci/run
 
 bench: mao
-	@if command -v python3 > /dev/null; then python3 bench/ratios.py ./mao; else echo "python3 isn't installed: skipped"; fi
+	@if command -v python3 > /dev/null; then python3 bench/same_output.py ./mao && python3 bench/ratios.py ./mao; else echo "python3 isn't installed: skipped"; fi

@@ -1,4 +1,4 @@
-/* A switch that GCC compiles to a jump table. */
+/* A switch that GCC compiles to a jump table (-O2 -fno-pic -fno-reorder-blocks-and-partition). */
 #include <stdio.h>
 
 __attribute__((noinline)) int weekday(int day, int base)

@@ -1,9 +1,5 @@
 	.file	"switch.c"
 	.text
-	.section	.text.unlikely,"ax",@progbits
-.LCOLDB0:
-	.text
-.LHOTB0:
 	.p2align 4
 	.globl	weekday
 	.type	weekday, @function
@@ -68,26 +64,14 @@ weekday:
 	shrq	$32, %rax
 	subl	%edx, %eax
 	ret
-	.cfi_endproc
-	.section	.text.unlikely
-	.cfi_startproc
-	.type	weekday.cold, @function
-weekday.cold:
-.LFSB11:
 .L11:
 	xorl	%eax, %eax
 	ret
 	.cfi_endproc
 .LFE11:
-	.text
 	.size	weekday, .-weekday
-	.section	.text.unlikely
-	.size	weekday.cold, .-weekday.cold
-.LCOLDE0:
-	.text
-.LHOTE0:
 	.section	.rodata.str1.1,"aMS",@progbits,1
-.LC1:
+.LC0:
 	.string	"%d\n"
 	.section	.text.startup,"ax",@progbits
 	.p2align 4
@@ -107,7 +91,7 @@ main:
 	movl	%ebx, %edi
 	addl	$1, %ebx
 	call	weekday
-	movl	$.LC1, %edi
+	movl	$.LC0, %edi
 	movl	%eax, %esi
 	xorl	%eax, %eax
 	call	printf
