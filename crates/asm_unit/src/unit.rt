@@ -189,7 +189,7 @@ impl AsmUnit {
     /// The serial of a function's label.
     pub fn label(&self, f: u32) -> u32
         requires { f < length self.now.decided }
-        ensures { IfSome (slice_get (functions_of self.now) f) (λ p. option_map (λ q. q.entry.serial) (label_of p) ≡ Some result) }
+        ensures { option_map (λ p. option_map (λ q. q.entry.serial) (label_of p)) (slice_get (functions_of self.now) f) ≡ Some (Some result) }
     {
         self.decided(f).bounds.label as u32 + 1
     }
@@ -197,7 +197,7 @@ impl AsmUnit {
     /// The base power of a function as the entries stand: the greatest power of the alignments before it that have no max.
     pub fn base_power(&self, f: u32) -> u8
         requires { f < length self.now.decided }
-        ensures { IfSome (slice_get (functions_of self.now) f) (λ p. result ≡ base_power p) }
+        ensures { option_map (λ p. base_power p) (slice_get (functions_of self.now) f) ≡ Some result }
     {
         self.decided(f).bounds.base
     }
@@ -257,7 +257,7 @@ impl AsmUnit {
     /// The serial of the first entry of a function's code behind this entry.
     pub fn next_code(&self, f: u32, serial: u32) -> Option<u32>
         requires { f < length self.now.decided }
-        ensures { IfSome (slice_get (functions_of self.now) f) (λ p. result ≡ next_among (code_part p) self.now.held serial) }
+        ensures { option_map (λ p. next_among (code_part p) self.now.held serial) (slice_get (functions_of self.now) f) ≡ Some result }
     {
         let end = self.decided(f).bounds.end;
         let owners = self.owners.as_slice();
@@ -274,7 +274,7 @@ impl AsmUnit {
     /// The serial of the local label of a function with this name.
     pub fn target(&self, f: u32, name: &[u8]) -> Option<u32>
         requires { f < length self.now.decided }
-        ensures { IfSome (slice_get (functions_of self.now) f) (λ p. result ≡ target_of p name.now) }
+        ensures { option_map (λ p. target_of p name.now) (slice_get (functions_of self.now) f) ≡ Some result }
     {
         let own = self.decided(f).name.as_slice();
         self.names.labels.target(f as usize + 1, own, name)
