@@ -58,8 +58,8 @@ def gcc_form(size):
     return "".join(parts)
 
 
-def plain_file(size):
-    """One plain function of at most 200,000 pieces, whose lines carry long comments."""
+def with_comments(size):
+    """One function of at most 200,000 entries, whose lines carry long comments."""
     lines = 190_000
     fill = "x" * max(1, size // lines - 24)
     kinds = ["\taddl $1, %eax", "\tnop", "\tmovq %rax, %rcx", "\taddq $-7, %rdx"]
@@ -99,19 +99,24 @@ def main():
     if not os.access(program, os.X_OK):
         sys.exit(f"{program} isn't there: run `make mao` first")
     mao = [os.path.abspath(program), "--mao=NOPKILL"]
+    small, large = gcc_form(MIB), gcc_form(32 * MIB - 64)
+    # A name, what `mao` reads, and what `as` reads. A file that its first line freezes is read and copied, and no more.
     texts = [
-        ("GCC's form, 1 MiB", gcc_form(MIB)),
-        ("GCC's form, 32 MiB", gcc_form(32 * MIB)),
-        ("GCC's form, all entries read", gcc_form(3 * MIB)),
-        ("plain file, 32 MiB", plain_file(31 * MIB)),
-        ("2,000,000 newlines", "\n" * 2_000_000),
+        ("GCC's form, 1 MiB", small, small),
+        ("GCC's form, 32 MiB", large, large),
+        ("GCC's form, 32 MiB, read and copied", "\t.macro m\n" + large, large),
+        ("long comments, 31 MiB", with_comments(31 * MIB), None),
+        ("2,000,000 newlines", "\n" * 2_000_000, None),
     ]
     per_byte = {}
     with tempfile.TemporaryDirectory() as folder:
         path = os.path.join(folder, "text.s")
-        for name, text in texts:
+        assembled_path = os.path.join(folder, "assembled.s")
+        for name, text, other in texts:
             with open(path, "w") as out:
                 out.write(text)
+            with open(assembled_path, "w") as out:
+                out.write(text if other is None else other)
             size = len(text)
             own = timed(mao, path)
             if own is None:
@@ -123,7 +128,7 @@ def main():
             if copy:
                 line += f", {own / copy:.1f} times cat"
             if shutil.which("as"):
-                assembled = timed(["as", "-o", "/dev/null"], path, runs=2)
+                assembled = timed(["as", "-o", "/dev/null"], assembled_path, runs=2)
                 if assembled:
                     line += f", {own / assembled:.3f} times as"
             line += f", peak memory {peak_of(mao, path) / size:.1f} times the input"
