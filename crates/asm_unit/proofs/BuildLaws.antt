@@ -1,20 +1,16 @@
 -- What the walks over a file have found makes a unit.
 use Rattle.std.proofs.Common.{◌≡◌, ℕ, zero, suc, ◌+◌, ◌-◌, ◌<◌, ◌≤◌, Bool, true, false, cond, ◌||◌, nat_eq, List, [], ◌∷◌, ◌++◌, map, length, filter, Option, Some, None, refl, sym, ap, ◌∙◌, subst, arith, append_assoc, length-append, unwrap_or, option_map}
 use Rattle.std.specs.Prelude.{◌^◌, drop, slice_get, slice_index_or, find, is_some, bytes_eq}
-use Rattle.std.specs.List.{cons_option}
-use Rattle.std.proofs.lemmas.Slice.Eq.{bytes_eq-Decides}
-use Rattle.std.proofs.lemmas.Bool.{eq-eqb, ne_eqb, eqb-true, or_parts}
+use Rattle.std.proofs.lemmas.Bool.{eq-eqb, ne_eqb, eqb-true}
 use Rattle.insn_ir.specs.declared.entry.Entry.{Entry}
-use Rattle.jump_tables.specs.Names.{has, meets, AreDistinct}
+use Rattle.jump_tables.specs.Names.{has}
 use Rattle.jump_tables.specs.Sections.{Section, Placed, placed, placed_from, section_after, text}
 use Rattle.jump_tables.specs.declared.table.Table.{Table}
 use Rattle.jump_tables.specs.Tables.{FileTable, label_name, table_cells, table_of, file_tables}
 use Rattle.insn_ir.specs.Machine.{Absolute}
-use Rattle.asm_unit.specs.declared.cause.FreezeKind.{FreezeKind}
-use Rattle.asm_unit.specs.declared.cause.FreezeCause.{FreezeCause}
 use Rattle.asm_unit.specs.declared.decide.DecidedFunction.{DecidedFunction}
-use Rattle.asm_unit.specs.Functions.{Part, nothing, parts, functions, label_of, label_names, name_of, section_of}
-use Rattle.asm_unit.specs.Freeze.{breaks_file, file_cause, file_cause_from, is_serial, is_breaking, cause}
+use Rattle.asm_unit.specs.Functions.{Part, nothing, parts, functions, label_of, name_of, section_of}
+use Rattle.asm_unit.specs.Freeze.{cause}
 use Rattle.asm_unit.specs.Aliases.{is_home}
 use Rattle.asm_unit.specs.Tables.{is_among, tables_of, named_tables}
 use Rattle.asm_unit.specs.TableRows.{picked, AreTableOwners}
@@ -145,56 +141,8 @@ or_true : (b : Bool) → b || true ≡ true
 or_true true = refl
 or_true false = refl
 
--- no name stands twice in a file that isn't frozen
-
 false_true : false ≡ true → ⊥
 false_true q = cc
-
-self_eq : (n : List ℕ) → bytes_eq n n ≡ true
-self_eq n = (bytes_eq-Decides n n).1 refl
-
-eq_self : (m n : List ℕ) → bytes_eq m n ≡ true → m ≡ n
-eq_self m n e = (bytes_eq-Decides m n).0 e
-
--- of names that all differ, and differ from those seen, one more that is seen first
-one_more : (o : Option (List ℕ)) (seen ns : List (List ℕ)) → meets (cons_option o []) seen ≡ false
-    → AreDistinct ns × ((n : List ℕ) → has n (cons_option o [] ++ seen) ≡ true → has n ns ≡ false)
-    → AreDistinct (cons_option o ns) × ((n : List ℕ) → has n seen ≡ true → has n (cons_option o ns) ≡ false)
-one_more None seen ns m h = h
-one_more (Some x) seen ns m h = ((h.1 x (ap (λ b. b || has x seen) (self_eq x)), h.0), λ n e. by_test n e (bytes_eq n x) refl)
-  where
-    new : has x seen ≡ false
-    new = (or_parts (has x seen) false m).0
-
-    by_test : (n : List ℕ) → has n seen ≡ true → (b : Bool) → bytes_eq n x ≡ b → b || has n ns ≡ false
-    by_test n e true q = absurd (false_true (sym new ∙ ap (λ y. has y seen) (sym (eq_self n x q)) ∙ e))
-    by_test n e false q = h.1 n (ap (λ b. bytes_eq n x || b) e ∙ or_true (bytes_eq n x))
-      where
-        or_true : (b : Bool) → (b || true) ≡ true
-        or_true true = refl
-        or_true false = refl
-
-abbrev file_at : Placed → FreezeCause
-file_at p = record { kind = FreezeKind.File; serial = p.entry.serial }
-
-distinct_from : (frozen : Option ℕ) (seen : List (List ℕ)) (ps : List Placed) → file_cause_from frozen seen ps ≡ None
-    → AreDistinct (label_names ps) × ((n : List ℕ) → has n seen ≡ true → has n (label_names ps) ≡ false)
-distinct_from frozen seen [] e = (tt, λ n h. refl)
-distinct_from frozen seen (p ∷ ps) e = by_test (λ q. distinct_from frozen (label_names (p ∷ []) ++ seen) ps q) (breaks_file frozen seen p) refl e
-  where
-    by_test : (file_cause_from frozen (label_names (p ∷ []) ++ seen) ps ≡ None → AreDistinct (label_names ps) × ((n : List ℕ) → has n (label_names (p ∷ []) ++ seen) ≡ true → has n (label_names ps) ≡ false)) → (b : Bool) → breaks_file frozen seen p ≡ b → cond b (Some (file_at p)) (file_cause_from frozen (label_names (p ∷ []) ++ seen) ps) ≡ None
-        → AreDistinct (label_names (p ∷ ps)) × ((n : List ℕ) → has n seen ≡ true → has n (label_names (p ∷ ps)) ≡ false)
-    by_test rest true g q = absurd (no q)
-      where
-        no : Some (file_at p) ≡ None → ⊥
-        no z = cc
-    by_test rest false g q =
-        one_more (label_name p.entry.kind) seen (label_names ps)
-        (or_parts (is_serial frozen p.entry.serial || is_breaking p.entry.kind) (meets (label_names (p ∷ [])) seen) g).1
-        (rest q)
-
-pub distinct_labels : (frozen : Option ℕ) (ps : List Placed) → file_cause frozen ps ≡ None → AreDistinct (label_names ps)
-distinct_labels frozen ps e = (distinct_from frozen [] ps e).0
 
 -- the decisions
 

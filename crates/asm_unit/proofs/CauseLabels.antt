@@ -13,8 +13,16 @@ use Rattle.jump_tables.specs.Sections.{Section, section_after, placed_from}
 use Rattle.jump_tables.specs.Tables.{label_name}
 use Rattle.asm_unit.specs.declared.causes.labels.LabelPlace.{LabelPlace}
 use Rattle.asm_unit.specs.Functions.{label_names}
-use Rattle.asm_unit.specs.Labels.{one_name, labels_in}
 use Rattle.asm_unit.specs.LabelOwners.{LabelOwners, no_labels, label_number, noted_label, first_label, IsPlaceOf}
+
+-- the names of labels
+abbrev pub one_name : Option (List ℕ) → List (List ℕ)
+one_name None = []
+one_name (Some n) = n ∷ []
+
+abbrev pub labels_in : List Entry → List (List ℕ)
+labels_in [] = []
+labels_in (e ∷ es) = one_name (label_name e.kind) ++ labels_in es
 
 pub number_at : (n : List ℕ) (ms : List (List ℕ)) (os : List ℕ) (k : ℕ) (d : ℕ) → place_of n ms ≡ Some k → k < length os → get_or os k d ≡ label_number ms os n
 number_at n [] os k d e l = absurd (no e)

@@ -26,9 +26,7 @@ pub mod CauseNames
 pub mod CauseAll
 pub mod CauseRows
 pub mod TableOwnerLaws
-pub mod FunctionTableLaws
 pub mod WalkParts
-pub mod LabelLaws
 pub mod OwnedLaws
 pub mod BoundsLaws
 pub mod ReachLaws

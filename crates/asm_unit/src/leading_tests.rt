@@ -1,8 +1,11 @@
 ghost use Rattle.std.specs.Prelude.{◌<◌, ◌^◌, length, IfOk};
 ghost use Rattle.asm_unit.specs.Held.{AreNumbered};
 
-use super::*;
+use crate::aliases::Aliases;
 use crate::causes::function_names;
+use crate::layout::lay_out;
+use crate::leading::leading_names;
+use crate::reached_functions::uses_of_functions;
 use insn_ir::{
     Arg, Atom, Base, Cell, CellList, DirectiveKind, Disp, Entry, EntryKind, Insn, Mem, Name,
     NameList, Op, Width,

@@ -7,7 +7,6 @@ mod causes;
 mod decide;
 mod defined_names;
 mod held;
-mod labels;
 pub mod laws;
 mod layout;
 mod leading;
@@ -20,17 +19,7 @@ mod reached_functions;
 mod table_cells;
 mod unit;
 
-pub use aliases::Aliases;
 pub use cause::{FreezeCause, FreezeKind};
-pub use causes::{file_cause, function_causes, table_rows};
-pub use decide::{Decided, DecidedFunction};
-pub use held::HeldList;
-pub use labels::{FileLabels, Labels, labels_of};
-pub use layout::{FunctionBounds, Layout, SectionAt, label_name, lay_out};
-pub use leading::leading_names;
-pub use owned_tables::table_owners;
-pub use reach::{ReachBy, Reached};
-pub use reached_functions::{FunctionUses, uses_of_functions};
 pub use unit::AsmUnit;
 
 #[cfg(test)]

@@ -1,4 +1,5 @@
-use super::*;
+use crate::aliases::Aliases;
+use crate::reach::{ReachBy, Reached};
 use insn_ir::{
     Arg, Atom, Base, Cell, CellList, DirectiveKind, Disp, Entry, EntryKind, Insn, Mem, Name,
     NameList, Op, Width,

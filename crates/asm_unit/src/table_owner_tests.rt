@@ -4,8 +4,9 @@ ghost use Rattle.jump_tables.specs.Sections.{placed};
 ghost use Rattle.asm_unit.specs.Functions.{label_names};
 ghost use Rattle.asm_unit.specs.Held.{AreNumbered};
 
-use crate::causes::{Labels, function_names};
-use crate::{FileLabels, labels_of, lay_out, table_owners};
+use crate::causes::{Labels, file_cause, function_names};
+use crate::layout::lay_out;
+use crate::owned_tables::table_owners;
 use insn_ir::{
     Arg, Atom, Base, Cell, CellList, DirectiveKind, Disp, Entry, EntryKind, Insn, Mem, Name,
     NameList, Op, Reg, Width,
@@ -141,9 +142,9 @@ fn owners_in(alloc: Global, entries: &[Entry]) -> Result<Vec<usize>, AllocError>
 // The numbers of the functions whose tables the tables are, and none where a label stands twice.
 fn numbers_in(alloc: Global, lines: &[Line]) -> Result<Vec<usize>, AllocError> {
     let entries = entries_of(alloc, lines)?;
-    match labels_of(alloc, None, &entries)? {
-        FileLabels::Frozen(_cause) => Ok(Vec::new(alloc)),
-        FileLabels::Labels(_labels) => owners_in(alloc, &entries),
+    match file_cause(alloc, None, &entries)? {
+        Some(_cause) => Ok(Vec::new(alloc)),
+        None => owners_in(alloc, &entries),
     }
 }
 

@@ -1,4 +1,6 @@
-use super::*;
+use crate::causes::file_cause;
+use crate::held::HeldList;
+use crate::layout::lay_out;
 use att_lexer::{Span, SpanList};
 use insn_ir::{Arg, Atom, DirectiveKind, Entry, EntryKind, Insn, Name, Op, Width};
 use std::alloc::{AllocError, Global};
@@ -206,17 +208,8 @@ fn finds_what_freezes_a_file(rt: HostRuntime) -> Result<(), Fail> {
     ];
     for (lines, frozen, serial) in files {
         let entries = entries_of(rt.alloc(), lines)?;
-        match labels_of(rt.alloc(), frozen, &entries)? {
-            FileLabels::Frozen(cause) => {
-                assert_eq!(rt; cause.kind, FreezeKind::File);
-                assert_eq!(rt; Some(cause.serial), serial);
-            }
-            FileLabels::Labels(labels) => {
-                assert_eq!(rt; serial, None);
-                assert_eq!(rt; labels.names.number_of(b"g"), Some(1));
-                assert_eq!(rt; labels.places.as_slice(), [1, 2].as_slice());
-            }
-        }
+        let cause = file_cause(rt.alloc(), frozen, &entries)?;
+        assert_eq!(rt; cause.map(|c| c.serial), serial);
     }
     Ok(())
 }

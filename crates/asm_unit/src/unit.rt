@@ -209,9 +209,10 @@ impl AsmUnit {
         self.last
     }
 
-    /// The serial of the first entry.
+    /// The serial of the first entry. From it on serials rise.
     pub fn first(&self) -> Option<u32>
-        ensures { result ≡ first_of self.now.held }
+        ensures first { result ≡ first_of self.now.held }
+        ensures rise { Rise 0 self.now.held }
     {
         self.held.first()
     }

@@ -1,12 +1,12 @@
 -- The text of a unit.
-use Rattle.std.specs.Prelude.{ℕ, ◌+◌, ◌≤◌, ◌≡◌, List, [], ◌∷◌, ◌++◌, take, drop, length, find, Option, Some, None, ⊤}
+use Rattle.std.specs.Prelude.{ℕ, ◌+◌, ◌≤◌, List, [], ◌∷◌, ◌++◌, take, drop, length, Option, Some, None, ⊤}
 use Rattle.std.specs.List.{flat_map, AllByRecursion}
 use Rattle.att_lexer.specs.declared.pieces.Span.{Span}
 use Rattle.insn_ir.specs.declared.entry.DirectiveKind.{DirectiveKind}
 use Rattle.insn_ir.specs.declared.entry.EntryKind.{EntryKind}
 use Rattle.insn_ir.specs.Profile.{IsInstruction}
 use Rattle.att_grammar.specs.Canonical.{insn_text, align_text}
-use Rattle.asm_unit.specs.Held.{Held, serial_is}
+use Rattle.asm_unit.specs.Held.{Held}
 
 -- the bytes of a text that a span names
 abbrev pub bytes_at : List ℕ → Span → List ℕ
@@ -42,8 +42,3 @@ IsWritable text k None = IsOfProfile k
 
 abbrev pub AreWritable : List ℕ → List Held → Type 0
 AreWritable text hs = AllByRecursion (λ h. IsWritable text h.entry.kind h.span) hs
-
--- no two entries have one serial
-abbrev pub SerialsDiffer : List Held → Type 0
-SerialsDiffer [] = ⊤
-SerialsDiffer (h ∷ hs) = (find (serial_is h.entry.serial) hs ≡ None) × SerialsDiffer hs

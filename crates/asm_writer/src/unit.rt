@@ -4,7 +4,7 @@ ghost use Rattle.std.specs.Prelude.{◌<◌, ◌++◌, ℕ, take, length, OnOk, 
 ghost use Rattle.std.specs.Io.KnownBytes.{Appends};
 ghost use Rattle.mao_outside.specs.Causes.{HasCause};
 ghost use Rattle.asm_writer.specs.Fragments.{fragments_text};
-ghost use Rattle.asm_writer.specs.Unit.{new_line, new_text, entry_text, unit_text, IsOfProfile, IsWritable, AreWritable, SerialsDiffer};
+ghost use Rattle.asm_writer.specs.Unit.{new_line, new_text, entry_text, unit_text, IsOfProfile, IsWritable, AreWritable};
 ghost use Rattle.asm_writer.specs.Runs.{IsRun, run_text, text_at, Passes};
 
 use crate::fragment::Fragment;
@@ -124,7 +124,6 @@ fn pass_entry<K: Sink>(
 /// Kept pieces that follow one another are put together. It takes no memory. `Failed` comes only where the sink
 /// counted a fault; then a proper prefix was taken.
 pub fn write_unit<K: Sink>(unit: &AsmUnit, text: &[u8], sink: &mut K) -> Result<(), Failed>
-    requires serials { SerialsDiffer unit.now.held }
     requires writable { AreWritable text.now unit.now.held }
     ensures all { OnOk result (Appends (K.taken sink.old) (K.taken sink.new) (unit_text text.now unit.now.held)) }
     ensures part { OnErr result ((n : ℕ) × (n < length (unit_text text.now unit.now.held))

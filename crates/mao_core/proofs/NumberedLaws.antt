@@ -1,12 +1,11 @@
 -- Held entries that are numbered.
-use Rattle.std.proofs.Common.{◌≡◌, ℕ, zero, suc, ◌+◌, ◌<◌, ◌≤◌, cond, List, [], ◌∷◌, length, get_or, Some, None, refl, ap, ◌∙◌, arith}
+use Rattle.std.proofs.Common.{◌≡◌, ℕ, zero, suc, ◌+◌, ◌<◌, cond, List, [], ◌∷◌, length, get_or, Some, refl, ap, ◌∙◌, arith}
 use Rattle.std.specs.Prelude.{find}
 use Rattle.std.specs.List.{AllByRecursion}
 use Rattle.std.proofs.lemmas.Bool.{eq-eqb, ne_eqb}
 use Rattle.insn_ir.specs.declared.entry.EntryKind.{EntryKind}
 use Rattle.insn_ir.specs.declared.entry.Entry.{Entry}
 use Rattle.asm_unit.specs.Held.{Held, AreNumbered, entries_of, serial_is, entry_of, held_entry}
-use Rattle.asm_writer.specs.Unit.{SerialsDiffer}
 use Rattle.mao_core.specs.Entries.{numbered, kinds_of_text}
 
 pub are_numbered : (n m : ℕ) (ks : List EntryKind) → m ≡ suc n → AreNumbered n (numbered m ks)
@@ -27,17 +26,6 @@ entry_at n zero s (x ∷ hs) d h lt e = ap (λ b. held_entry (cond b (Some x) (f
 entry_at n (suc i) s (x ∷ hs) d h lt e =
     ap (λ b. held_entry (cond b (Some x) (find (serial_is s) hs))) (ne_eqb x.entry.serial s (λ q. absurd (omega (arith, h.0, e, q))))
     ∙ entry_at (suc n) i s hs d h.1 (omega (arith, lt)) (omega (arith, e))
-
--- no serial is found that stands before
-none_found : (n s : ℕ) (hs : List Held) → AreNumbered n (entries_of hs) → s ≤ n → find (serial_is s) hs ≡ None
-none_found n s [] h le = refl
-none_found n s (x ∷ hs) h le =
-    ap (λ b. cond b (Some x) (find (serial_is s) hs)) (ne_eqb x.entry.serial s (λ q. absurd (omega (arith, h.0, le, q))))
-    ∙ none_found (suc n) s hs h.1 (omega (arith, le))
-
-pub numbered_differ : (n : ℕ) (hs : List Held) → AreNumbered n (entries_of hs) → SerialsDiffer hs
-numbered_differ n [] h = tt
-numbered_differ n (x ∷ hs) h = (none_found (suc n) x.entry.serial hs h.1 (omega (arith, h.0)), numbered_differ (suc n) hs h.1)
 
 -- each entry is found by its serial
 abbrev FoundIn : List Held → List Entry → Type 0

@@ -1,13 +1,12 @@
 -- The text of a unit of which entries were dropped.
-use Rattle.std.proofs.Common.{◌≡◌, ℕ, ◌+◌, ◌≤◌, Bool, true, false, not, cond, List, [], ◌∷◌, ◌++◌, map, filter, length, take, drop, Some, None, refl, ap, sym, subst, ◌∙◌, arith, length-append}
-use Rattle.std.specs.Prelude.{find}
+use Rattle.std.proofs.Common.{◌≡◌, ℕ, ◌+◌, ◌≤◌, Bool, true, false, not, cond, List, [], ◌∷◌, ◌++◌, map, filter, length, take, drop, Some, refl, ap, sym, subst, ◌∙◌, arith, length-append}
 use Rattle.std.specs.List.{AllByRecursion, concat}
 use Rattle.std.proofs.lemmas.List.{drop-drop, take_at, drop_at}
 use Rattle.att_lexer.specs.Pieces.{pieces, spans_of}
 use Rattle.att_lexer.proofs.PiecesLaws.{are_pieces}
 use Rattle.att_grammar.specs.Entries.{kind_of_piece}
-use Rattle.asm_unit.specs.Held.{Held, entries_of, serial_is}
-use Rattle.asm_writer.specs.Unit.{entry_text, unit_text, IsWritable, AreWritable, SerialsDiffer}
+use Rattle.asm_unit.specs.Held.{Held, entries_of}
+use Rattle.asm_writer.specs.Unit.{entry_text, unit_text, IsWritable, AreWritable}
 use Rattle.mao_core.specs.Entries.{numbered}
 use Rattle.mao_core.specs.Kept.{is_among, remaining_from, text_without}
 use Rattle.mao_core.specs.Removal.{without_all}
@@ -74,26 +73,6 @@ all_left P keep (h ∷ hs) a = by_test (keep h) (all_left P keep hs a.1)
     by_test true rest = (a.0, rest)
     by_test false rest = rest
 
-none_is_not : {A : Type 0} (x : A) → Some x ≡ None → ⊥
-none_is_not x e = cc
-
-none_left : (test keep : Held → Bool) (hs : List Held) → find test hs ≡ None → find test (filter keep hs) ≡ None
-none_left test keep [] e = refl
-none_left test keep (h ∷ hs) e = by_test (test h) refl (keep h) e (none_left test keep hs)
-  where
-    by_test : (b : Bool) → test h ≡ b → (c : Bool) → cond b (Some h) (find test hs) ≡ None → (find test hs ≡ None → find test (filter keep hs) ≡ None) → find test (cond c (h ∷ filter keep hs) (filter keep hs)) ≡ None
-    by_test true t c e rest = absurd (none_is_not h e)
-    by_test false t true e rest = ap (λ b. cond b (Some h) (find test (filter keep hs))) t ∙ rest e
-    by_test false t false e rest = rest e
-
-differ_left : (keep : Held → Bool) (hs : List Held) → SerialsDiffer hs → SerialsDiffer (filter keep hs)
-differ_left keep [] d = tt
-differ_left keep (h ∷ hs) d = by_test (keep h) (none_left (serial_is h.entry.serial) keep hs d.0) (differ_left keep hs d.1)
-  where
-    by_test : (b : Bool) → find (serial_is h.entry.serial) (filter keep hs) ≡ None → SerialsDiffer (filter keep hs) → SerialsDiffer (cond b (h ∷ filter keep hs) (filter keep hs))
-    by_test true none rest = (none, rest)
-    by_test false none rest = rest
-
 -- the unit of a text
 pub output : (text removed : List ℕ) (hs : List Held) → AreOf hs 1 0 (pieces text) → unit_text text (without_all removed hs) ≡ text_without removed text
 output text removed hs e = left_text text removed hs 1 0 (pieces text) e (sym (are_pieces text).whole)
@@ -102,6 +81,3 @@ pub writable : (text removed : List ℕ) (hs : List Held) → AreOf hs 1 0 (piec
 writable text removed hs e =
     all_left (λ h. IsWritable text h.entry.kind h.span) (λ h. not (is_among h.entry.serial removed)) hs
     (writable_all text hs 1 0 (pieces text) e (omega (arith, ap length (are_pieces text).whole)))
-
-pub still_differ : (removed : List ℕ) (hs : List Held) → SerialsDiffer hs → SerialsDiffer (without_all removed hs)
-still_differ removed hs d = differ_left (λ h. not (is_among h.entry.serial removed)) hs d

@@ -12,7 +12,7 @@ use Rattle.asm_unit.specs.Held as Held
 use Rattle.asm_unit.specs.Freeze.{file_cause}
 use Rattle.asm_unit.specs.Decisions.{decisions}
 use Rattle.asm_unit.specs.Unit.{Unit, freeze_serial}
-use Rattle.asm_writer.specs.Unit.{unit_text, AreWritable, SerialsDiffer}
+use Rattle.asm_writer.specs.Unit.{unit_text, AreWritable}
 use Rattle.mao_core.specs.declared.preparing.Prepared.{Prepared}
 use Rattle.mao_core.specs.Entries.{numbered, kinds_of_text, entries_of}
 use Rattle.mao_core.specs.Removal.{without_all}
@@ -22,10 +22,10 @@ use Rattle.mao_core.specs.Outcome.{IsJudged}
 use Rattle.mao_core.specs.Notes.{lines_from, notes_text}
 use Rattle.mao_core.specs.Prepared.{IsUnitOf, IsPrepared}
 use Rattle.mao_core.proofs.JudgedLaws.{length_spans}
-use Rattle.mao_core.proofs.NumberedLaws.{text_numbered, numbered_differ}
+use Rattle.mao_core.proofs.NumberedLaws.{text_numbered}
 use Rattle.mao_core.proofs.RemovalLaws.{length_entries}
 use Rattle.mao_core.proofs.RemovedLaws.{judged}
-use Rattle.mao_core.proofs.OutputLaws.{AreOf, output, writable, still_differ}
+use Rattle.mao_core.proofs.OutputLaws.{AreOf, output, writable}
 
 length_numbered : (n : ℕ) (ks : List EntryKind) → length (numbered n ks) ≡ length ks
 length_numbered n [] = refl
@@ -73,7 +73,6 @@ prepared u p lines of removed left at notes =
           ∙ ap (λ f. notes_text (lines_from 1 (pieces text)) f p.unit.decided (length p.removed)) (ap (λ v. v.file) left ∙ of.file)
           ∙ ap (λ ds. notes_text (lines_from 1 (pieces text)) (file_frozen text) ds (length p.removed)) (ap (λ v. v.decided) left ∙ of.decided)
           ∙ ap (λ r. notes_text (lines_from 1 (pieces text)) (file_frozen text) (decided text) (length r)) gone;
-      differ = subst SerialsDiffer (sym held) (still_differ p.removed u.held (numbered_differ 0 u.held (unit_numbered text u of)));
       writable = subst (AreWritable text) (sym held) (writable text p.removed u.held are_of);
     }
 

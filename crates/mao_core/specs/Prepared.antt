@@ -3,7 +3,7 @@ use Rattle.std.specs.Prelude.{◌≡◌, ℕ, List, map, length, Some}
 use Rattle.att_lexer.specs.Pieces.{pieces, spans_of}
 use Rattle.asm_unit.specs.Held as Held
 use Rattle.asm_unit.specs.Unit.{Unit}
-use Rattle.asm_writer.specs.Unit.{unit_text, AreWritable, SerialsDiffer}
+use Rattle.asm_writer.specs.Unit.{unit_text, AreWritable}
 use Rattle.mao_core.specs.declared.preparing.Prepared.{Prepared}
 use Rattle.mao_core.specs.Entries.{entries_of}
 use Rattle.mao_core.specs.Kept.{text_without}
@@ -23,5 +23,4 @@ pub record IsPrepared (p : Prepared) : Type 0 where
   pub removed : p.removed ≡ removed_of p.text.items
   pub output : unit_text p.text.items p.unit.held ≡ text_without p.removed p.text.items
   pub notes : p.notes.items ≡ notes_of p.text.items
-  pub differ : SerialsDiffer p.unit.held
   pub writable : AreWritable p.text.items p.unit.held

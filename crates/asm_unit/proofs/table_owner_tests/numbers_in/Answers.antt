@@ -2,11 +2,10 @@ use Rattle.std.proofs.Common.{None, sym, ◌∙◌, subst}
 use Rattle.jump_tables.specs.Names.{AreDistinct}
 use Rattle.jump_tables.specs.Sections.{placed}
 use Rattle.asm_unit.specs.Functions.{label_names}
-use Rattle.asm_unit.specs.FileLabels.{AreLabels}
 use Rattle.asm_unit.proofs.CauseLocals.{file_distinct}
 use Rattle.asm_unit.proofs.table_owner_tests.numbers_in.Goals as goal
 
 pub owners_in-requires-clause-distinct : goal.owners_in-requires-clause-distinct
 owners_in-requires-clause-distinct c =
-    let found = subst (AreLabels None c.deref.result.now) c.in-Labels.is c.in_ok-_cause.ensures in
-    subst (λ es. AreDistinct (label_names (placed es))) (c.deref.ensures.value ∙ sym c.deref-in-Labels.ensures.value) (file_distinct None (placed c.deref.result.now) found.0)
+    subst (λ es. AreDistinct (label_names (placed es))) (c.deref.ensures.value ∙ sym c.deref-in-None.ensures.value)
+    (file_distinct None (placed c.deref.result.now) (sym c.in_ok-_cause.ensures ∙ c.in-None.is))

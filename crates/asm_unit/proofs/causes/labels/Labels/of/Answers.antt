@@ -3,9 +3,8 @@ use Rattle.std.specs.Prelude.{◌||◌}
 use Rattle.std.proofs.lemmas.List.{drop_all}
 use Rattle.jump_tables.specs.Names.{has}
 use Rattle.jump_tables.specs.Sections.{text}
-use Rattle.asm_unit.specs.Labels.{labels_in}
 use Rattle.asm_unit.specs.LabelOwners.{first_label}
-use Rattle.asm_unit.proofs.CauseLabels.{AreNoted, known_or, one_noted, all_known, labels_placed, or_none}
+use Rattle.asm_unit.proofs.CauseLabels.{labels_in, AreNoted, known_or, one_noted, all_known, labels_placed, or_none}
 use Rattle.asm_unit.proofs.causes.labels.Labels.of.Goals as goal
 
 pub loop-i-preserved : goal.loop-i-preserved
