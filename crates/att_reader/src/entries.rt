@@ -9,6 +9,7 @@ ghost use Rattle.att_reader.specs.Made.{entry};
 ghost use Rattle.att_grammar.specs.Entries.{only_word, label_of, without_blanks, is_apart, stands_first, is_inline_mark, is_directive, insn_or_opaque, statement_of, unlabelled, kind_of_piece, IsOfProfile};
 
 use crate::instructions::instruction;
+use crate::known::KnownLines;
 use crate::opaque::opaque;
 use att_grammar::{Cursor, Seen, Word};
 use att_lexer::{TokenList, is_first_label, take_tokens};
@@ -184,10 +185,31 @@ fn line(
     Ok(())
 }
 
-/// Reads entries one after another, and keeps the room for the tokens of a line.
+/// Reads entries one after another: it keeps the room for the tokens of a line, and what lines without a symbol are, which
+/// are read once.
 #[derive(Drop)]
 pub struct EntryReader {
     tokens: TokenList,
+    known: KnownLines,
+}
+
+// Appends the entry of a line that isn't known, and keeps what it is.
+fn new_line(
+    alloc: Global,
+    reader: &mut EntryReader,
+    out: &mut Vec<Entry>,
+    piece: &[u8],
+    serial: u32,
+) -> Result<(), AllocError>
+    requires length { length piece.now < 2 ^ 32 }
+    requires room { out.old.len < out.old.cap }
+    ensures { OnOk result (out.new.items ≡ out.old.items ++ entry serial (kind_of_piece piece.now) ∷ []) }
+{
+    line(alloc, &mut reader.tokens, piece, out, serial)?;
+    if let Some(made) = out.last() {
+        reader.known.note(alloc, piece, &made.kind)?;
+    }
+    Ok(())
 }
 
 impl EntryReader {
@@ -195,6 +217,7 @@ impl EntryReader {
     pub fn new(alloc: Global) -> EntryReader {
         EntryReader {
             tokens: TokenList::new(alloc),
+            known: KnownLines::new(alloc),
         }
     }
 
@@ -211,18 +234,13 @@ impl EntryReader {
         ensures { OnOk result (out.new.items ≡ out.old.items ++ entry serial (kind_of_piece piece.now) ∷ []) }
     {
         out.reserve(1)?;
-        line(alloc, &mut self.tokens, piece, out, serial)
-    }
-
-    /// The entry that a piece is, as [`read_entry`] gives it. After an `Err` the reader may be used again.
-    pub fn read(&mut self, alloc: Global, piece: &[u8], serial: u32) -> Result<Entry, AllocError>
-        requires { length piece.now < 2 ^ 32 }
-        ensures definition { IfOk result (λ entry. entry ≡ record { serial = serial; kind = kind_of_piece piece.now }) }
-        ensures profile { IfOk result (λ entry. IsOfProfile entry.kind) }
-    {
-        let mut made = Vec::with_capacity(alloc, 1)?;
-        self.read_onto(alloc, &mut made, piece, serial)?;
-        Ok(made.take_last())
+        match self.known.find(piece) {
+            Some(kind) => {
+                kind.put(out, serial);
+                Ok(())
+            }
+            None => new_line(alloc, self, out, piece, serial),
+        }
     }
 }
 
@@ -232,5 +250,8 @@ pub fn read_entry(alloc: Global, piece: &[u8], serial: u32) -> Result<Entry, All
     ensures definition { IfOk result (λ entry. entry ≡ record { serial = serial; kind = kind_of_piece piece.now }) }
     ensures profile { IfOk result (λ entry. IsOfProfile entry.kind) }
 {
-    EntryReader::new(alloc).read(alloc, piece, serial)
+    let mut tokens = TokenList::new(alloc);
+    let mut made = Vec::with_capacity(alloc, 1)?;
+    line(alloc, &mut tokens, piece, &mut made, serial)?;
+    Ok(made.take_last())
 }

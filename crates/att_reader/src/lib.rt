@@ -5,8 +5,10 @@ mod entries;
 mod expressions;
 mod forms;
 mod instructions;
+mod known;
 mod opaque;
 mod operands;
+mod plain;
 mod registers;
 mod values;
 
