@@ -143,6 +143,9 @@ pub fn uses_in(alloc: Global, labels: &Symbols, entries: &[Entry]) -> Result<Vec
     ensures { IfOk result (λ v. v.items ≡ map (uses_of (placed entries.now)) labels.now) }
 {
     let mut uses = no_uses(alloc, labels.len())?;
+    if uses.is_empty() {
+        return Ok(uses);
+    }
     let mut debug = false;
     for entry in entries {
         debug = debug_after(debug, &entry.kind);

@@ -1,12 +1,14 @@
 //! The jump tables of a file, and what uses them.
 #![tactic(auto)]
 
+mod class;
 mod collect;
 mod find;
 mod symbols;
 mod table;
 mod uses;
 
+pub use class::{EntryClass, class_of, classes_of};
 pub use collect::is_debug_name;
 pub use find::find_tables;
 pub use symbols::Symbols;
