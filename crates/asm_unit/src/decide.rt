@@ -1,6 +1,7 @@
 // What is decided of a file when it is read.
 
 ghost use Rattle.std.specs.Prelude.{◌≡◌, ◌<◌, ◌^◌, List, [], length, map, Some, None, IfOk};
+ghost use Rattle.jump_tables.specs.Classes.{classes_of};
 ghost use Rattle.jump_tables.specs.Names.{AreDistinct};
 ghost use Rattle.jump_tables.specs.Sections.{placed};
 ghost use Rattle.asm_unit.specs.Functions.{functions, label_names};
@@ -20,7 +21,7 @@ use crate::owned_tables::table_owners;
 use crate::reached_functions::uses_of_functions;
 use crate::table_cells::TableCells;
 use insn_ir::{Entry, Name};
-use jump_tables::{Tables, find_tables};
+use jump_tables::{EntryClass, Tables, classes_of, find_tables};
 use std::alloc::{AllocError, Global};
 
 /// What was decided of a function: its name, whether calls or jumps of the file lead to it, why it is copied as it is, if so,
@@ -75,8 +76,13 @@ fn decided_functions(
 }
 
 // The functions of a file that isn't frozen.
-fn decide_functions(alloc: Global, entries: &[Entry]) -> Result<Decided, AllocError>
+fn decide_functions(
+    alloc: Global,
+    entries: &[Entry],
+    classes: &[EntryClass],
+) -> Result<Decided, AllocError>
     requires numbered { AreNumbered 0 entries.now }
+    requires classes { classes.now ≡ classes_of entries.now }
     requires distinct { AreDistinct (label_names (placed entries.now)) }
     requires few { length entries.now < 2 ^ 32 }
     ensures file { IfOk result (λ d. d.file ≡ None) }
@@ -143,8 +149,10 @@ fn decide_nothing(
     alloc: Global,
     cause: FreezeCause,
     entries: &[Entry],
+    classes: &[EntryClass],
 ) -> Result<Decided, AllocError>
     requires numbered { AreNumbered 0 entries.now }
+    requires classes { classes.now ≡ classes_of entries.now }
     ensures file { IfOk result (λ d. d.file ≡ Some cause) }
     ensures decided { IfOk result (λ d. decided_from 0 d.functions.items d.tables d.table_owners.items ≡ []) }
     ensures keeps { IfOk result (λ d. (hs : List Held) → entries_of hs ≡ entries.now → Keeps hs d.functions.items d.owners.items d.tables d.table_owners.items d.names) }
@@ -174,8 +182,9 @@ pub fn decide(alloc: Global, frozen: Option<u32>, entries: &[Entry]) -> Result<D
     ensures decided { IfOk result (λ d. decided_from 0 d.functions.items d.tables d.table_owners.items ≡ decisions frozen entries.now) }
     ensures keeps { IfOk result (λ d. (hs : List Held) → entries_of hs ≡ entries.now → Keeps hs d.functions.items d.owners.items d.tables d.table_owners.items d.names) }
 {
+    let classes = classes_of(alloc, entries)?;
     match file_cause(alloc, frozen, entries)? {
-        Some(cause) => decide_nothing(alloc, cause, entries),
-        None => decide_functions(alloc, entries),
+        Some(cause) => decide_nothing(alloc, cause, entries, &classes),
+        None => decide_functions(alloc, entries, &classes),
     }
 }
