@@ -10,6 +10,7 @@ use insn_ir::{
     Arg, Atom, Base, Cell, CellList, DirectiveKind, Disp, Entry, EntryKind, Insn, Mem, Name,
     NameList, Op, Width,
 };
+use jump_tables::classes_of;
 use std::alloc::{AllocError, Global};
 use std::test::Fail;
 
@@ -192,7 +193,8 @@ fn finds_what_reaches_functions(rt: HostRuntime) -> Result<(), Fail> {
     let layout = lay_out(alloc, &entries)?;
     let names = function_names(alloc, &entries, &layout.bounds)?;
     let aliases = Aliases::of_entries(alloc, &entries)?;
-    let uses = uses_of_functions(alloc, &entries, &aliases, &names)?;
+    let classes = classes_of(alloc, &entries)?;
+    let uses = uses_of_functions(alloc, &entries, &classes, &aliases, &names)?;
     assert_eq!(rt; uses.home.as_slice(), [false, true].as_slice());
     assert_eq!(rt; uses.with_offset.as_slice(), [None, Some(3)].as_slice());
     assert_eq!(rt; uses.by_data.as_slice(), [None, Some(9)].as_slice());
