@@ -102,9 +102,9 @@ fn decide_functions(
         &layout.owners,
     )?;
     let rows = table_rows(alloc, entries, tables.as_slice(), &numbers)?;
-    let aliases = Aliases::of_entries(alloc, entries)?;
+    let aliases = Aliases::of_entries(alloc, entries, classes)?;
     let uses = uses_of_functions(alloc, entries, classes, &aliases, &names)?;
-    let leading = leading_names(alloc, entries, &names)?;
+    let leading = leading_names(alloc, entries, classes, &names)?;
     let causes = function_causes(
         alloc,
         entries,
@@ -160,7 +160,7 @@ fn decide_nothing(
     let owners = unowned(alloc, entries.len())?;
     let names = DefinedNames {
         labels: Labels::of(alloc, entries, &owners)?,
-        aliases: Aliases::of_entries(alloc, entries)?,
+        aliases: Aliases::of_entries(alloc, entries, classes)?,
         cells: TableCells::new(alloc),
     };
     Ok(Decided {

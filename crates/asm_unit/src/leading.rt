@@ -1,6 +1,7 @@
 // The names of a file that stand for no function.
 
 ghost use Rattle.std.specs.Prelude.{◌≡◌, ℕ, List, map, option_map, is_none, ◌&&◌, ◌||◌, IfOk, OnOk};
+ghost use Rattle.jump_tables.specs.Classes.{classes_of};
 ghost use Rattle.jump_tables.specs.Names.{has};
 ghost use Rattle.jump_tables.specs.Sections.{placed};
 ghost use Rattle.asm_unit.specs.Functions.{functions, name_of};
@@ -12,7 +13,7 @@ ghost use Rattle.asm_unit.specs.Reach.{first_in};
 use crate::aliases::Aliases;
 use crate::reach::Reached;
 use insn_ir::{DirectiveKind, Entry, EntryKind, Name};
-use jump_tables::Symbols;
+use jump_tables::{EntryClass, Symbols};
 use std::alloc::{AllocError, Global};
 
 fn defined_name(kind: &EntryKind) -> Option<&Name>
@@ -60,13 +61,15 @@ fn names_not_reached(
 pub fn leading_names(
     alloc: Global,
     entries: &[Entry],
+    classes: &[EntryClass],
     names: &[&[u8]],
 ) -> Result<Symbols, AllocError>
+    requires classes { classes.now ≡ classes_of entries.now }
     requires names { map (λ n. n.now) names.now ≡ map name_of (functions (placed entries.now)) }
     ensures { IfOk result (λ s. (n : List ℕ) → has n s ≡ leads_on (placed entries.now) n) }
 {
     // An alias stands for a function just where the function reaches it along aliases that are turned round.
-    let aliases = Aliases::turned(alloc, entries)?;
+    let aliases = Aliases::turned(alloc, entries, classes)?;
     let reached = Reached::from_names(alloc, &aliases, names)?;
     names_not_reached(alloc, entries, &reached)
 }

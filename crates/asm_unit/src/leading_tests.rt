@@ -166,7 +166,8 @@ fn finds_what_stands_for_no_function(rt: HostRuntime) -> Result<(), Fail> {
         let entries = entries_of(alloc, lines)?;
         let layout = lay_out(alloc, &entries)?;
         let names = function_names(alloc, &entries, &layout.bounds)?;
-        let leading = leading_names(alloc, &entries, &names)?;
+        let classes = classes_of(alloc, &entries)?;
+        let leading = leading_names(alloc, &entries, &classes, &names)?;
         assert_eq!(rt; leading.has(name.as_bytes()), leads, "{name}");
     }
     Ok(())
@@ -192,8 +193,8 @@ fn finds_what_reaches_functions(rt: HostRuntime) -> Result<(), Fail> {
     let entries = entries_of(alloc, &lines)?;
     let layout = lay_out(alloc, &entries)?;
     let names = function_names(alloc, &entries, &layout.bounds)?;
-    let aliases = Aliases::of_entries(alloc, &entries)?;
     let classes = classes_of(alloc, &entries)?;
+    let aliases = Aliases::of_entries(alloc, &entries, &classes)?;
     let uses = uses_of_functions(alloc, &entries, &classes, &aliases, &names)?;
     assert_eq!(rt; uses.home.as_slice(), [false, true].as_slice());
     assert_eq!(rt; uses.with_offset.as_slice(), [None, Some(3)].as_slice());

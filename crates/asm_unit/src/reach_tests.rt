@@ -134,8 +134,8 @@ fn first_of(
         })?;
         serial = serial.saturating_add(1);
     }
-    let aliases = Aliases::of_entries(alloc, &entries)?;
     let classes = classes_of(alloc, &entries)?;
+    let aliases = Aliases::of_entries(alloc, &entries, &classes)?;
     let reached = Reached::in_entries(alloc, &aliases, &entries, &classes, by)?;
     Ok(reached.first_of(name.as_bytes()))
 }
