@@ -108,6 +108,7 @@ fn decide_functions(
     let causes = function_causes(
         alloc,
         entries,
+        classes,
         &layout,
         &labels,
         &names,
