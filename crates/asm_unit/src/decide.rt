@@ -89,7 +89,7 @@ fn decide_functions(
     ensures decided { IfOk result (λ d. decided_from 0 d.functions.items d.tables d.table_owners.items ≡ map (decision (placed entries.now)) (functions (placed entries.now))) }
     ensures keeps { IfOk result (λ d. (hs : List Held) → entries_of hs ≡ entries.now → Keeps hs d.functions.items d.owners.items d.tables d.table_owners.items d.names) }
 {
-    let layout = lay_out(alloc, entries)?;
+    let layout = lay_out(alloc, entries, classes)?;
     let names = function_names(alloc, entries, &layout.bounds)?;
     let labels = Labels::of(alloc, entries, &layout.owners)?;
     let tables = find_tables(alloc, entries)?;
@@ -108,6 +108,7 @@ fn decide_functions(
     let causes = function_causes(
         alloc,
         entries,
+        classes,
         &layout,
         &labels,
         &names,

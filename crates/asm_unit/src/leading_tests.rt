@@ -10,6 +10,7 @@ use insn_ir::{
     Arg, Atom, Base, Cell, CellList, DirectiveKind, Disp, Entry, EntryKind, Insn, Mem, Name,
     NameList, Op, Width,
 };
+use jump_tables::classes_of;
 use std::alloc::{AllocError, Global};
 use std::test::Fail;
 
@@ -163,7 +164,8 @@ fn finds_what_stands_for_no_function(rt: HostRuntime) -> Result<(), Fail> {
     for (lines, name, leads) in cases {
         assert!(rt; lines.len() < 100);
         let entries = entries_of(alloc, lines)?;
-        let layout = lay_out(alloc, &entries)?;
+        let classes = classes_of(alloc, &entries)?;
+        let layout = lay_out(alloc, &entries, &classes)?;
         let names = function_names(alloc, &entries, &layout.bounds)?;
         let leading = leading_names(alloc, &entries, &names)?;
         assert_eq!(rt; leading.has(name.as_bytes()), leads, "{name}");
@@ -189,7 +191,8 @@ fn finds_what_reaches_functions(rt: HostRuntime) -> Result<(), Fail> {
         Set("a", "g"),
     ];
     let entries = entries_of(alloc, &lines)?;
-    let layout = lay_out(alloc, &entries)?;
+    let classes = classes_of(alloc, &entries)?;
+    let layout = lay_out(alloc, &entries, &classes)?;
     let names = function_names(alloc, &entries, &layout.bounds)?;
     let aliases = Aliases::of_entries(alloc, &entries)?;
     let uses = uses_of_functions(alloc, &entries, &aliases, &names)?;
