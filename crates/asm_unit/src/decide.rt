@@ -103,7 +103,7 @@ fn decide_functions(
     )?;
     let rows = table_rows(alloc, entries, tables.as_slice(), &numbers)?;
     let aliases = Aliases::of_entries(alloc, entries)?;
-    let uses = uses_of_functions(alloc, entries, &aliases, &names)?;
+    let uses = uses_of_functions(alloc, entries, classes, &aliases, &names)?;
     let leading = leading_names(alloc, entries, &names)?;
     let causes = function_causes(
         alloc,

@@ -195,7 +195,8 @@ fn finds_what_reaches_functions(rt: HostRuntime) -> Result<(), Fail> {
     let layout = lay_out(alloc, &entries, &classes)?;
     let names = function_names(alloc, &entries, &layout.bounds)?;
     let aliases = Aliases::of_entries(alloc, &entries)?;
-    let uses = uses_of_functions(alloc, &entries, &aliases, &names)?;
+    let classes = classes_of(alloc, &entries)?;
+    let uses = uses_of_functions(alloc, &entries, &classes, &aliases, &names)?;
     assert_eq!(rt; uses.home.as_slice(), [false, true].as_slice());
     assert_eq!(rt; uses.with_offset.as_slice(), [None, Some(3)].as_slice());
     assert_eq!(rt; uses.by_data.as_slice(), [None, Some(9)].as_slice());

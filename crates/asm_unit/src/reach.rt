@@ -1,15 +1,16 @@
 // The names that a file reaches along aliases.
 
 ghost use Rattle.std.specs.Prelude.{◌≡◌, ℕ, List, [], map, fold, is_some, IfOk, OnOk};
+ghost use Rattle.jump_tables.specs.Classes.{class_of, classes_of};
 ghost use Rattle.jump_tables.specs.Sections.{Section, section_after, is_debug, placed};
 ghost use Rattle.asm_unit.specs.Aliases.{Setting, settings, has_or_alias};
 ghost use Rattle.asm_unit.specs.Reach.{Marks, first_in, first_reaching};
-ghost use Rattle.asm_unit.specs.ReachSteps.{IsTableOf, no_marks, searching, visited, AreMarked, ReachedFrom};
+ghost use Rattle.asm_unit.specs.ReachSteps.{IsTableOf, no_marks, searching, visited, AreMarked, ReachedFrom, can_reach, reaching_kind};
 
 use crate::aliases::Aliases;
 use crate::reach_names::names_by;
 use insn_ir::{DirectiveKind, Entry, EntryKind, Name};
-use jump_tables::{Symbols, is_debug_name};
+use jump_tables::{EntryClass, Symbols, is_debug_name};
 use std::alloc::{AllocError, Global};
 use std::marker::Model;
 
@@ -31,6 +32,28 @@ pub(crate) fn debug_after(debug: bool, kind: &EntryKind) -> bool
     match kind {
         EntryKind::Directive(DirectiveKind::Section { name, .. }) => is_debug_name(name.as_slice()),
         _ => debug,
+    }
+}
+
+/// The same, where only the class tells most entries.
+fn debug_by_class(debug: bool, class: EntryClass, kind: &EntryKind) -> bool
+    requires { class ≡ class_of kind.now }
+    ensures { (s : Section) → is_debug s ≡ debug → result ≡ is_debug (section_after s kind.now) }
+{
+    match class {
+        EntryClass::Section => debug_after(debug, kind),
+        _ => debug,
+    }
+}
+
+/// Whether entries of this class may have names by which they reach so.
+fn can_reach(by: ReachBy, class: EntryClass) -> bool
+    ensures { result ≡ can_reach by class }
+{
+    match by {
+        ReachBy::Homing => matches!(class, EntryClass::Instruction | EntryClass::Opaque),
+        ReachBy::Offset => matches!(class, EntryClass::Instruction),
+        ReachBy::Data => matches!(class, EntryClass::Words | EntryClass::Bytes),
     }
 }
 
@@ -162,6 +185,29 @@ impl Reached {
         self.follow(alloc, aliases, serial, queue)
     }
 
+    /// Marks what an entry reaches so and nothing has reached before; `debug` says whether it stands in a debug section.
+    fn reach_by(
+        &mut self,
+        alloc: Global,
+        aliases: &Aliases,
+        by: ReachBy,
+        debug: bool,
+        class: EntryClass,
+        entry: &Entry,
+    ) -> Result<(), AllocError>
+        requires { class ≡ class_of entry.now.kind }
+        ensures { OnOk result ((ss : List Setting) → IsTableOf ss aliases.now → AreMarked ss self.old → ReachedFrom ss (reaching_kind by debug entry.now.kind) entry.now.serial self.old self.new) }
+    {
+        if !can_reach(by, class) {
+            return Ok(());
+        }
+        let names = names_by(alloc, by, debug, &entry.kind)?;
+        if names.is_empty() {
+            return Ok(());
+        }
+        self.reach_from(alloc, aliases, entry.serial, &names)
+    }
+
     /// What these names reach, without an entry that does: each name with the serial 0. The work is linear in the names and
     /// the aliases.
     pub fn from_names(
@@ -183,17 +229,18 @@ impl Reached {
         alloc: Global,
         aliases: &Aliases,
         entries: &[Entry],
+        classes: &[EntryClass],
         by: ReachBy,
     ) -> Result<Reached, AllocError>
-        requires { IsTableOf (settings (placed entries.now)) aliases.now }
+        requires aliases { IsTableOf (settings (placed entries.now)) aliases.now }
+        requires classes { classes.now ≡ classes_of entries.now }
         ensures { IfOk result (λ r. (f : List ℕ) → first_in r f ≡ first_reaching by (placed entries.now) f) }
     {
         let mut reached = Reached::new(alloc);
         let mut debug = false;
-        for entry in entries {
-            debug = debug_after(debug, &entry.kind);
-            let names = names_by(alloc, by, debug, &entry.kind)?;
-            reached.reach_from(alloc, aliases, entry.serial, &names)?;
+        for (i, entry) in entries.iter().enumerate() {
+            debug = debug_by_class(debug, classes[i], &entry.kind);
+            reached.reach_by(alloc, aliases, by, debug, classes[i], entry)?;
         }
         Ok(reached)
     }

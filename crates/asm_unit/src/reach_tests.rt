@@ -4,6 +4,7 @@ use insn_ir::{
     Arg, Atom, Base, Cell, CellList, DirectiveKind, Disp, Entry, EntryKind, Insn, Mem, Name,
     NameList, Op, Width,
 };
+use jump_tables::classes_of;
 use std::alloc::{AllocError, Global};
 use std::test::Fail;
 
@@ -134,7 +135,8 @@ fn first_of(
         serial = serial.saturating_add(1);
     }
     let aliases = Aliases::of_entries(alloc, &entries)?;
-    let reached = Reached::in_entries(alloc, &aliases, &entries, by)?;
+    let classes = classes_of(alloc, &entries)?;
+    let reached = Reached::in_entries(alloc, &aliases, &entries, &classes, by)?;
     Ok(reached.first_of(name.as_bytes()))
 }
 
