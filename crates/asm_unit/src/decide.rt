@@ -21,7 +21,7 @@ use crate::owned_tables::table_owners;
 use crate::reached_functions::uses_of_functions;
 use crate::table_cells::TableCells;
 use insn_ir::{Entry, Name};
-use jump_tables::{EntryClass, Tables, classes_of, find_tables};
+use jump_tables::{EntryClass, Tables, classes_of, find_tables_by_class};
 use std::alloc::{AllocError, Global};
 
 /// What was decided of a function: its name, whether calls or jumps of the file lead to it, why it is copied as it is, if so,
@@ -92,7 +92,7 @@ fn decide_functions(
     let layout = lay_out(alloc, entries, classes)?;
     let names = function_names(alloc, entries, &layout.bounds)?;
     let labels = Labels::of(alloc, entries, &layout.owners)?;
-    let tables = find_tables(alloc, entries)?;
+    let tables = find_tables_by_class(alloc, entries, classes)?;
     let numbers = table_owners(
         alloc,
         entries,
