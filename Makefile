@@ -8,5 +8,7 @@ mao:
 check:
 	.ci/run
 
+# The bench's reader cuts a text and reads its entries, and keeps none.
 bench: mao
+	cd crates/reading_bench && rt run < /dev/null
 	@if command -v python3 > /dev/null; then python3 bench/same_output.py ./mao && python3 bench/ratios.py ./mao; else echo "python3 isn't installed: skipped"; fi

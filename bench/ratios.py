@@ -1,9 +1,9 @@
 #!/usr/bin/env python3
-"""Times `mao --mao=NOPKILL` beside `cat` and `as` on texts in GCC's form, as ratios in one run.
+"""Times `mao --mao=NOPKILL`, and reading alone, beside `cat` and `as` on texts in GCC's form, as ratios in one run.
 
-Usage: bench/ratios.py [PROGRAM]   (default: ./mao)
+Usage: bench/ratios.py [PROGRAM [READER]]   (default: ./mao, crates/reading_bench/out/reading_bench)
 
-The program is built first, by `make mao`. What isn't installed is skipped.
+Both are built first, by `make bench`. READER cuts a text and reads each entry, and keeps none. What isn't there is skipped.
 """
 
 import os
@@ -46,12 +46,28 @@ _ZN8examples7numbers13sum_of_valuesEPKij{k}:
 \t.size\t_ZN8examples7numbers13sum_of_valuesEPKij{k}, .-_ZN8examples7numbers13sum_of_valuesEPKij{k}
 """
 
+# A short one, as GCC writes it without unwind tables.
+SHORT_FUNCTION = """\
+\t.p2align 4
+\t.globl\tsum_of_{k}
+\t.type\tsum_of_{k}, @function
+sum_of_{k}:
+\tmovslq\t%esi, %rax
+\tleaq\t(%rdi,%rax,4), %rdx
+\tcmpl\t$16, %esi
+\tnop
+\taddq\t$4, %rdi
+\taddq\t%rdx, %rax
+\tret
+\t.size\tsum_of_{k}, .-sum_of_{k}
+"""
 
-def gcc_form(size):
+
+def gcc_form(size, function=FUNCTION):
     """Functions in GCC's form, up to a size in bytes."""
     parts, length, k = ["\t.file\t\"bench.c\"\n\t.text\n"], 24, 0
     while length < size - 600:
-        part = FUNCTION.replace("{k}", str(k))
+        part = function.replace("{k}", str(k))
         parts.append(part)
         length += len(part)
         k += 1
@@ -99,11 +115,14 @@ def main():
     if not os.access(program, os.X_OK):
         sys.exit(f"{program} isn't there: run `make mao` first")
     mao = [os.path.abspath(program), "--mao=NOPKILL"]
-    small, large = gcc_form(MIB), gcc_form(32 * MIB - 64)
+    reader = sys.argv[2] if len(sys.argv) > 2 else "crates/reading_bench/out/reading_bench"
+    reads = [os.path.abspath(reader)] if os.access(reader, os.X_OK) else None
+    small, large, short = gcc_form(MIB), gcc_form(32 * MIB - 64), gcc_form(32 * MIB - 800_000, SHORT_FUNCTION)
     # A name, what `mao` reads, and what `as` reads. A file that its first line freezes is read and copied, and no more.
     texts = [
         ("GCC's form, 1 MiB", small, small),
         ("GCC's form, 32 MiB", large, large),
+        (f"GCC's form, 32 MiB, {short.count('.size'):,} functions", short, short),
         ("GCC's form, 32 MiB, read and copied", "\t.macro m\n" + large, large),
         ("long comments, 31 MiB", with_comments(31 * MIB), None),
         ("2,000,000 newlines", "\n" * 2_000_000, None),
@@ -127,11 +146,13 @@ def main():
             copy = timed(["cat"], path) if shutil.which("cat") else None
             if copy:
                 line += f", {own / copy:.1f} times cat"
-            if shutil.which("as"):
-                assembled = timed(["as", "-o", "/dev/null"], assembled_path, runs=2)
-                if assembled:
-                    line += f", {own / assembled:.3f} times as"
+            assembled = timed(["as", "-o", "/dev/null"], assembled_path, runs=2) if shutil.which("as") else None
+            if assembled:
+                line += f", {own / assembled:.3f} times as"
             line += f", peak memory {peak_of(mao, path) / size:.1f} times the input"
+            alone = timed(reads, path) if reads else None
+            if alone:
+                line += f"; reading alone {alone:.3f} s" + (f", {alone / assembled:.3f} times as" if assembled else "")
             print(line, flush=True)
     small, large = per_byte.get("GCC's form, 1 MiB"), per_byte.get("GCC's form, 32 MiB")
     if small and large:

@@ -1,16 +1,22 @@
 -- Uses of local labels from outside.
-use Rattle.std.proofs.Common.{◌≡◌, ℕ, suc, ◌+◌, ◌-◌, ◌<◌, ◌≤◌, Bool, true, false, cond, not, List, [], ◌∷◌, map, length, get_or, drop, Option, Some, None, refl, sym, ap, ◌∙◌, arith}
+use Rattle.std.proofs.Common.{◌≡◌, ℕ, suc, ◌+◌, ◌-◌, ◌<◌, ◌≤◌, Bool, true, false, cond, not, List, [], ◌∷◌, ◌++◌, map, length, get_or, drop, Option, Some, None, refl, sym, ap, ◌∙◌, arith}
 use Rattle.std.specs.Borrow.{Bor}
 use Rattle.std.specs.Prelude.{nat_eq, bytes_eq, ◌&&◌, ◌||◌}
 use Rattle.std.specs.List.{list_any}
-use Rattle.std.proofs.lemmas.Bool.{eqb-true, eqb-false, eq-eqb, ne_eqb}
+use Rattle.std.proofs.lemmas.Bool.{eqb-true, eqb-false, eq-eqb, ne_eqb, or_parts}
 use Rattle.std.proofs.lemmas.List.{drop_more, get_or-map}
+use Rattle.insn_ir.specs.declared.entry.DirectiveKind.{DirectiveKind}
+use Rattle.insn_ir.specs.declared.entry.EntryKind.{EntryKind}
 use Rattle.insn_ir.specs.declared.entry.Entry.{Entry}
-use Rattle.jump_tables.specs.Uses.{names}
+use Rattle.insn_ir.specs.declared.insn.Atom.{Atom}
+use Rattle.insn_ir.specs.declared.insn.Insn.{Insn}
+use Rattle.jump_tables.specs.declared.class.EntryClass.{EntryClass}
+use Rattle.jump_tables.specs.Classes.{names_any, insn_class, directive_class, class_of}
+use Rattle.jump_tables.specs.Uses.{names, insn_names, directive_names, atoms_of_arg}
 use Rattle.jump_tables.specs.Sections.{Section, is_debug, section_after, placed_from}
 use Rattle.jump_tables.specs.Collected.{first_of}
 use Rattle.asm_unit.specs.declared.causes.outside.LabelsOfFile.{LabelsOfFile}
-use Rattle.asm_unit.specs.OutsideUses.{is_used, NotedBy, uses_at, first_outside}
+use Rattle.asm_unit.specs.OutsideUses.{is_used, may_name, NotedBy, uses_at, first_outside}
 use Rattle.asm_unit.proofs.LayoutLaws.{swap_eq}
 
 abbrev pub used_at : ℕ → ℕ → ℕ → List (List ℕ) → List ℕ → ℕ → Bool
@@ -45,6 +51,42 @@ read_at ns k d n = bytes_eq (get_or ns k d).now n
 pub read_is : (ns : List (Bor (List ℕ))) (number : ℕ) (d : Bor (List ℕ)) (n m : List ℕ) (b : Bool) → (number ≡ 0 → ⊥) → number ≤ length ns → m ≡ n → read_at ns (number - 1) d m ≡ b
     → bytes_eq (get_or (map (λ k. k.now) ns) (number - 1) []) n ≡ b
 read_is ns number d n m b z l g e = ap (λ k. bytes_eq k n) (get_or-map (λ k. k.now) ns (number - 1) d [] (omega (arith, z, l))) ∙ ap (bytes_eq (get_or ns (number - 1) d).now) (sym g) ∙ e
+
+-- what another class names
+none_here : (xs : List Atom) → not (nat_eq (length xs) 0) ≡ false → xs ≡ []
+none_here [] e = refl
+none_here (x ∷ xs) e = absurd (no (ap not (sym (ne_eqb (suc (length xs)) 0 (λ q. omega (arith, q)))) ∙ e))
+  where
+    no : true ≡ false → ⊥
+    no q = let it : ⊥ = cc in it
+
+no_atoms : (xs ys zs : List Atom) → not (nat_eq (length xs) 0) || not (nat_eq (length ys) 0) || not (nat_eq (length zs) 0) ≡ false → xs ++ ys ++ zs ≡ []
+no_atoms xs ys zs e =
+    let all = or_parts (not (nat_eq (length xs) 0) || not (nat_eq (length ys) 0)) (not (nat_eq (length zs) 0)) e in
+    let two = or_parts (not (nat_eq (length xs) 0)) (not (nat_eq (length ys) 0)) all.0 in
+    ap (λ vs. (vs ++ ys) ++ zs) (none_here xs two.0) ∙ ap (λ vs. vs ++ zs) (none_here ys two.1) ∙ none_here zs all.1
+
+plain_names : (i : Insn) → may_name (insn_class i) ≡ false → insn_names i ≡ []
+plain_names i h = by_symbols (names_any i) refl h
+  where
+    by_symbols : (b : Bool) → names_any i ≡ b → may_name (cond b EntryClass.Instruction EntryClass.Plain) ≡ false → insn_names i ≡ []
+    by_symbols true g e = let no : ⊥ = cc in absurd no
+    by_symbols false g e = ap (map (λ a. a.name)) (no_atoms (atoms_of_arg i.a) (atoms_of_arg i.b) (atoms_of_arg i.c) g)
+
+directive_no_names : (d : DirectiveKind) → may_name (directive_class d) ≡ false → directive_names d ≡ []
+directive_no_names (DirectiveKind.Export ns) h = let no : ⊥ = cc in absurd no
+directive_no_names (DirectiveKind.FuncType n) h = let no : ⊥ = cc in absurd no
+directive_no_names (DirectiveKind.FuncEnd n) h = let no : ⊥ = cc in absurd no
+directive_no_names (DirectiveKind.Alias a b) h = let no : ⊥ = cc in absurd no
+directive_no_names (DirectiveKind.Words w cs ns) h = let no : ⊥ = cc in absurd no
+directive_no_names (DirectiveKind.Bytes ns) h = let no : ⊥ = cc in absurd no
+directive_no_names _ h = refl
+
+pub no_names : (k : EntryKind) → may_name (class_of k) ≡ false → names k ≡ []
+no_names (EntryKind.Insn i) h = plain_names i h
+no_names (EntryKind.Directive d) h = directive_no_names d h
+no_names (EntryKind.Opaque ns) h = let no : ⊥ = cc in absurd no
+no_names _ h = refl
 
 -- one more test
 first_both : (a b : Bool) (o : Option ℕ) (k : ℕ) → first_of (first_of o (cond a (Some k) None)) (cond b (Some k) None) ≡ first_of o (cond (a || b) (Some k) None)

@@ -2,12 +2,14 @@
 use Rattle.std.proofs.Common.{◌≡◌, ℕ, zero, suc, ◌+◌, ◌<◌, ◌≤◌, Bool, true, false, cond, List, [], ◌∷◌, ◌++◌, map, max, length, get_or, set, drop, Option, Some, None, refl, sym, ap, ◌∙◌, subst, arith}
 use Rattle.std.specs.Prelude.{bytes_eq, ◌||◌}
 use Rattle.std.specs.List.{list_any}
-use Rattle.std.proofs.lemmas.List.{drop_more, drop_all, drop-set, append_assoc, append-nil}
+use Rattle.std.proofs.lemmas.List.{drop_more, drop_all, drop-set, get_or-map, append_assoc, append-nil}
 use Rattle.std.proofs.lemmas.List.Folds.{list_any-append}
 use Rattle.std.proofs.lemmas.Slice.Eq.{bytes_eq-Decides}
 use Rattle.insn_ir.specs.declared.entry.DirectiveKind.{DirectiveKind}
 use Rattle.insn_ir.specs.declared.entry.EntryKind.{EntryKind}
 use Rattle.insn_ir.specs.declared.entry.Entry.{Entry}
+use Rattle.jump_tables.specs.declared.class.EntryClass.{EntryClass}
+use Rattle.jump_tables.specs.Classes.{class_of, classes_of}
 use Rattle.jump_tables.specs.Names.{has, with_name}
 use Rattle.jump_tables.specs.Sections.{Section, section_after, placed_from}
 use Rattle.jump_tables.specs.Tables.{label_name}
@@ -40,6 +42,9 @@ has_one_more n m ns = by_test (has m ns) refl
     by_test : (b : Bool) → has m ns ≡ b → has n (cond b ns (ns ++ m ∷ [])) ≡ bytes_eq m n || has n ns
     by_test true e = by_name e (bytes_eq m n) refl
     by_test false e = list_any-append (bytes_eq n) ns (m ∷ []) ∙ by_end (has n ns) (bytes_eq n m) ∙ ap (λ b. b || has n ns) (swap_eq n m)
+
+pub class_at : (es : List Entry) (i : ℕ) (e : Entry) (d : EntryClass) → i < length es → e ≡ get_or es i e → get_or (classes_of es) i d ≡ class_of e.kind
+class_at es i e d l g = get_or-map (λ x. class_of x.kind) es i e d l ∙ ap (λ x. class_of x.kind) (sym g)
 
 pub marks_more : (i : ℕ) (es : List Entry) (bs : List Bool) (b : Bool) (e : Entry) → i < length es → i < length bs → e ≡ get_or es i e → drop (i + 1) bs ≡ ended (drop (i + 1) es) → b ≡ is_ended (label_name e.kind) (drop (i + 1) es) → drop i (set bs i b) ≡ ended (drop i es)
 marks_more i es bs b e l m g h q =

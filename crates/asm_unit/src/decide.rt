@@ -21,7 +21,7 @@ use crate::owned_tables::table_owners;
 use crate::reached_functions::uses_of_functions;
 use crate::table_cells::TableCells;
 use insn_ir::{Entry, Name};
-use jump_tables::{EntryClass, Tables, classes_of, find_tables};
+use jump_tables::{EntryClass, Tables, classes_of, find_tables_by_class};
 use std::alloc::{AllocError, Global};
 
 /// What was decided of a function: its name, whether calls or jumps of the file lead to it, why it is copied as it is, if so,
@@ -89,10 +89,10 @@ fn decide_functions(
     ensures decided { IfOk result (λ d. decided_from 0 d.functions.items d.tables d.table_owners.items ≡ map (decision (placed entries.now)) (functions (placed entries.now))) }
     ensures keeps { IfOk result (λ d. (hs : List Held) → entries_of hs ≡ entries.now → Keeps hs d.functions.items d.owners.items d.tables d.table_owners.items d.names) }
 {
-    let layout = lay_out(alloc, entries)?;
+    let layout = lay_out(alloc, entries, classes)?;
     let names = function_names(alloc, entries, &layout.bounds)?;
     let labels = Labels::of(alloc, entries, &layout.owners)?;
-    let tables = find_tables(alloc, entries)?;
+    let tables = find_tables_by_class(alloc, entries, classes)?;
     let numbers = table_owners(
         alloc,
         entries,
@@ -108,6 +108,7 @@ fn decide_functions(
     let causes = function_causes(
         alloc,
         entries,
+        classes,
         &layout,
         &labels,
         &names,

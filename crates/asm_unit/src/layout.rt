@@ -4,11 +4,12 @@ ghost use Rattle.std.specs.Prelude.{◌≡◌, ◌<◌, ◌^◌, ◌++◌, ◌�
 ghost use Rattle.asm_unit.specs.Layout.{ended, sizing, is_sized, typing, at_start, opening, owner_at, closing, first_align, arrived, counted, step_of, left_open, walked, walked_owners, bounds_from, owners_from};
 ghost use Rattle.asm_unit.specs.Walks.{section_of_ref, open_ref};
 ghost use Rattle.asm_unit.specs.Functions.{parts, leads_kind, is_align_kind, pads_fully, full_power, is_end_kind};
+ghost use Rattle.jump_tables.specs.Classes.{class_of, classes_of};
 ghost use Rattle.jump_tables.specs.Sections.{section_after, placed};
 ghost use Rattle.jump_tables.specs.Tables.{label_name};
 
 use insn_ir::{DirectiveKind, Entry, EntryKind, Name};
-use jump_tables::Symbols;
+use jump_tables::{EntryClass, Symbols};
 use std::alloc::{AllocError, Global};
 use std::marker::Model;
 
@@ -32,18 +33,31 @@ pub fn label_name(kind: &EntryKind) -> Option<&Name>
     }
 }
 
-fn note_size(alloc: Global, sizes: &mut Symbols, kind: &EntryKind) -> Result<(), AllocError>
+fn note_size(
+    alloc: Global,
+    sizes: &mut Symbols,
+    class: EntryClass,
+    kind: &EntryKind,
+) -> Result<(), AllocError>
+    requires { class ≡ class_of kind.now }
     ensures { OnOk result (sizes.new ≡ sizing sizes.old kind.now) }
 {
+    if !matches!(class, EntryClass::FunctionEnd) {
+        return Ok(());
+    }
     if let EntryKind::Directive(DirectiveKind::FuncEnd(name)) = kind {
         sizes.add(alloc, name.as_slice())?;
     }
     Ok(())
 }
 
-fn is_ended(sizes: &Symbols, kind: &EntryKind) -> bool
+fn is_ended(sizes: &Symbols, class: EntryClass, kind: &EntryKind) -> bool
+    requires { class ≡ class_of kind.now }
     ensures { result ≡ is_sized sizes.now (label_name kind.now) }
 {
+    if !matches!(class, EntryClass::Label) {
+        return false;
+    }
     match label_name(kind) {
         Some(name) => sizes.has(name.as_slice()),
         None => false,
@@ -51,15 +65,17 @@ fn is_ended(sizes: &Symbols, kind: &EntryKind) -> bool
 }
 
 /// Of each entry whether it is a label whose `.size` stands behind it.
-fn ended(alloc: Global, entries: &[Entry]) -> Result<Vec<bool>, AllocError>
+fn ended(alloc: Global, entries: &[Entry], classes: &[EntryClass]) -> Result<Vec<bool>, AllocError>
+    requires { classes.now ≡ classes_of entries.now }
     ensures { IfOk result (λ v. v.items ≡ ended entries.now) }
 {
     let mut sizes = Symbols::new(alloc);
     let mut marks = vec![in alloc; false; entries.len()]?;
     for i in (0..entries.len()).rev() {
         let kind = &entries[i].kind;
-        marks[i] = is_ended(&sizes, kind);
-        note_size(alloc, &mut sizes, kind)?;
+        let class = classes[i];
+        marks[i] = is_ended(&sizes, class, kind);
+        note_size(alloc, &mut sizes, class, kind)?;
     }
     Ok(marks)
 }
@@ -82,6 +98,18 @@ impl<'a> SectionAt<'a> {
                 code: *code,
             },
             _ => self,
+        }
+    }
+
+    // The same, of an entry whose class is known.
+    fn from(self, class: EntryClass, kind: &'a EntryKind) -> SectionAt<'a>
+        requires { class ≡ class_of kind.now }
+        ensures { section_of_ref result ≡ section_after (section_of_ref self.entry) kind.now }
+    {
+        if matches!(class, EntryClass::Section) {
+            self.after(kind)
+        } else {
+            self
         }
     }
 }
@@ -135,18 +163,31 @@ fn full_power(kind: &EntryKind) -> u8
     }
 }
 
-fn is_end(name: &[u8], kind: &EntryKind) -> bool
+fn is_end(name: &[u8], class: EntryClass, kind: &EntryKind) -> bool
+    requires { class ≡ class_of kind.now }
     ensures { result ≡ is_end_kind name.now kind.now }
 {
+    if !matches!(class, EntryClass::FunctionEnd) {
+        return false;
+    }
     match kind {
         EntryKind::Directive(DirectiveKind::FuncEnd(end)) => end.as_slice() == name,
         _ => false,
     }
 }
 
-fn note_type(alloc: Global, typed: &mut Symbols, kind: &EntryKind) -> Result<(), AllocError>
+fn note_type(
+    alloc: Global,
+    typed: &mut Symbols,
+    class: EntryClass,
+    kind: &EntryKind,
+) -> Result<(), AllocError>
+    requires { class ≡ class_of kind.now }
     ensures { OnOk result (typed.new ≡ typing typed.old kind.now) }
 {
+    if !matches!(class, EntryClass::FunctionType) {
+        return Ok(());
+    }
     if let EntryKind::Directive(DirectiveKind::FuncType(name)) = kind {
         typed.add(alloc, name.as_slice())?;
     }
@@ -220,7 +261,7 @@ impl<'a> Walk<'a> {
         ensures { option_map open_ref result ≡ opening self.now ended (section_of_ref section.entry) (label_name kind.now) }
     {
         let name = label_name(kind)?;
-        if section.code && self.typed.has(name.as_slice()) && ended {
+        if section.code && ended && self.typed.has(name.as_slice()) {
             Some(Opened {
                 name: name.as_slice(),
                 section: section.name,
@@ -246,12 +287,13 @@ impl<'a> Walk<'a> {
     }
 
     // The function that the next entry closes.
-    fn closing(&self, kind: &EntryKind) -> Option<FunctionBounds>
-        requires { self.now.index < 2 ^ 63 }
+    fn closing(&self, class: EntryClass, kind: &EntryKind) -> Option<FunctionBounds>
+        requires index { self.now.index < 2 ^ 63 }
+        requires class { class ≡ class_of kind.now }
         ensures { option_to_list result ≡ closing self.now kind.now self.now.inside }
     {
         let open = self.inside?;
-        if is_end(open.name, kind) {
+        if is_end(open.name, class, kind) {
             Some(FunctionBounds {
                 begin: open.begin,
                 label: open.label,
@@ -299,11 +341,17 @@ impl<'a> Walk<'a> {
         }
     }
 
-    fn count(&mut self, alloc: Global, kind: &EntryKind) -> Result<(), AllocError>
-        requires { self.old.index < 2 ^ 63 }
+    fn count(
+        &mut self,
+        alloc: Global,
+        class: EntryClass,
+        kind: &EntryKind,
+    ) -> Result<(), AllocError>
+        requires index { self.old.index < 2 ^ 63 }
+        requires class { class ≡ class_of kind.now }
         ensures { OnOk result (self.new ≡ counted self.old kind.now) }
     {
-        note_type(alloc, &mut self.typed, kind)?;
+        note_type(alloc, &mut self.typed, class, kind)?;
         self.index += 1;
         Ok(())
     }
@@ -314,22 +362,24 @@ impl<'a> Walk<'a> {
         alloc: Global,
         ended: bool,
         section: SectionAt<'a>,
+        class: EntryClass,
         kind: &'a EntryKind,
     ) -> Result<(), AllocError>
-        requires { self.old.index < 2 ^ 63 }
+        requires index { self.old.index < 2 ^ 63 }
+        requires class { class ≡ class_of kind.now }
         ensures { OnOk result (self.new ≡ step_of self.old ended (section_of_ref section.entry) kind.now) }
     {
         let Some(open) = self.inside else {
             self.arrive(ended, section, kind);
-            return self.count(alloc, kind);
+            return self.count(alloc, class, kind);
         };
-        if is_end(open.name, kind) {
+        if is_end(open.name, class, kind) {
             self.inside = None;
             self.index += 1;
             self.count += 1;
             return Ok(());
         }
-        self.count(alloc, kind)
+        self.count(alloc, class, kind)
     }
 }
 
@@ -357,20 +407,28 @@ fn walk_on<'a>(
     owners: &mut Vec<usize>,
     ended: bool,
     section: SectionAt<'a>,
+    class: EntryClass,
     kind: &'a EntryKind,
 ) -> Result<(), AllocError>
-    requires { walk.old.index < 2 ^ 63 }
+    requires index { walk.old.index < 2 ^ 63 }
+    requires class { class ≡ class_of kind.now }
     ensures step { OnOk result (walk.new ≡ step_of walk.old ended (section_of_ref section.entry) kind.now) }
     ensures bounds { OnOk result (bounds.new.items ≡ bounds.old.items ++ closing walk.old kind.now walk.old.inside) }
     ensures owners { OnOk result (owners.new.items ≡ owners.old.items ++ owner_at walk.old ended (section_of_ref section.entry) kind.now walk.old.inside ∷ []) }
 {
     owners.push(walk.owner(ended, section, kind))?;
-    push_if(bounds, walk.closing(kind))?;
-    walk.step(alloc, ended, section, kind)
+    push_if(bounds, walk.closing(class, kind))?;
+    walk.step(alloc, ended, section, class, kind)
 }
 
 /// Finds the functions of a file in one walk.
-fn walked(alloc: Global, entries: &[Entry], marks: &[bool]) -> Result<Layout, AllocError>
+fn walked(
+    alloc: Global,
+    entries: &[Entry],
+    classes: &[EntryClass],
+    marks: &[bool],
+) -> Result<Layout, AllocError>
+    requires classes { classes.now ≡ classes_of entries.now }
     requires as_many { length marks.now ≡ length entries.now }
     requires marked { marks.now ≡ ended entries.now }
     ensures bounds { IfOk result (λ l. l.bounds.items ≡ walked at_start (placed entries.now)) }
@@ -385,7 +443,8 @@ fn walked(alloc: Global, entries: &[Entry], marks: &[bool]) -> Result<Layout, Al
     };
     for i in 0..entries.len() {
         let kind = &entries[i].kind;
-        section = section.after(kind);
+        let class = classes[i];
+        section = section.from(class, kind);
         walk_on(
             alloc,
             &mut walk,
@@ -393,6 +452,7 @@ fn walked(alloc: Global, entries: &[Entry], marks: &[bool]) -> Result<Layout, Al
             &mut owners,
             marks[i],
             section,
+            class,
             kind,
         )?;
     }
@@ -401,10 +461,15 @@ fn walked(alloc: Global, entries: &[Entry], marks: &[bool]) -> Result<Layout, Al
 }
 
 /// Where the functions of a file stand, found in one walk forth and one back: linear in the entries.
-pub fn lay_out(alloc: Global, entries: &[Entry]) -> Result<Layout, AllocError>
+pub fn lay_out(
+    alloc: Global,
+    entries: &[Entry],
+    classes: &[EntryClass],
+) -> Result<Layout, AllocError>
+    requires { classes.now ≡ classes_of entries.now }
     ensures bounds { IfOk result (λ l. l.bounds.items ≡ bounds_from 0 (parts (placed entries.now))) }
     ensures owners { IfOk result (λ l. l.owners.items ≡ owners_from 0 (parts (placed entries.now))) }
 {
-    let marks = ended(alloc, entries)?;
-    walked(alloc, entries, &marks)
+    let marks = ended(alloc, entries, classes)?;
+    walked(alloc, entries, classes, &marks)
 }

@@ -164,7 +164,8 @@ fn finds_what_stands_for_no_function(rt: HostRuntime) -> Result<(), Fail> {
     for (lines, name, leads) in cases {
         assert!(rt; lines.len() < 100);
         let entries = entries_of(alloc, lines)?;
-        let layout = lay_out(alloc, &entries)?;
+        let classes = classes_of(alloc, &entries)?;
+        let layout = lay_out(alloc, &entries, &classes)?;
         let names = function_names(alloc, &entries, &layout.bounds)?;
         let classes = classes_of(alloc, &entries)?;
         let leading = leading_names(alloc, &entries, &classes, &names)?;
@@ -191,7 +192,8 @@ fn finds_what_reaches_functions(rt: HostRuntime) -> Result<(), Fail> {
         Set("a", "g"),
     ];
     let entries = entries_of(alloc, &lines)?;
-    let layout = lay_out(alloc, &entries)?;
+    let classes = classes_of(alloc, &entries)?;
+    let layout = lay_out(alloc, &entries, &classes)?;
     let names = function_names(alloc, &entries, &layout.bounds)?;
     let classes = classes_of(alloc, &entries)?;
     let aliases = Aliases::of_entries(alloc, &entries, &classes)?;

@@ -11,7 +11,7 @@ use insn_ir::{
     Arg, Atom, Base, Cell, CellList, DirectiveKind, Disp, Entry, EntryKind, Insn, Mem, Name,
     NameList, Op, Reg, Width,
 };
-use jump_tables::find_tables;
+use jump_tables::{classes_of, find_tables};
 use std::alloc::{AllocError, Global};
 use std::test::Fail;
 
@@ -124,7 +124,8 @@ fn owners_in(alloc: Global, entries: &[Entry]) -> Result<Vec<usize>, AllocError>
     requires numbered { AreNumbered 0 entries.now }
     requires distinct { AreDistinct (label_names (placed entries.now)) }
 {
-    let layout = lay_out(alloc, entries)?;
+    let classes = classes_of(alloc, entries)?;
+    let layout = lay_out(alloc, entries, &classes)?;
     let owners = layout.owners.as_slice();
     let names = function_names(alloc, entries, layout.bounds.as_slice())?;
     let labels = Labels::of(alloc, entries, owners)?;

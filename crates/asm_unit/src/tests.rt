@@ -3,6 +3,7 @@ use crate::held::HeldList;
 use crate::layout::lay_out;
 use att_lexer::{Span, SpanList};
 use insn_ir::{Arg, Atom, DirectiveKind, Entry, EntryKind, Insn, Name, Op, Width};
+use jump_tables::classes_of;
 use std::alloc::{AllocError, Global};
 use std::test::Fail;
 
@@ -183,7 +184,8 @@ fn finds_functions(rt: HostRuntime) -> Result<(), Fail> {
     ];
     for (lines, bounds, owners) in files {
         let entries = entries_of(rt.alloc(), lines)?;
-        let layout = lay_out(rt.alloc(), &entries)?;
+        let classes = classes_of(rt.alloc(), &entries)?;
+        let layout = lay_out(rt.alloc(), &entries, &classes)?;
         assert_eq!(rt; layout.owners.as_slice(), owners);
         assert_eq!(rt; layout.bounds.len(), bounds.len());
         for (found, (begin, label, end, base)) in layout.bounds.iter().zip(bounds) {

@@ -1,5 +1,4 @@
 -- What plain values stand for. Only private clauses cite it.
-use Rattle.std.specs.Prelude.{◌≡◌, List, ℕ}
 use Rattle.insn_ir.specs.declared.insn.Arg.{Arg}
 use Rattle.insn_ir.specs.declared.insn.Disp.{Disp}
 use Rattle.insn_ir.specs.declared.insn.Imm.{Imm}

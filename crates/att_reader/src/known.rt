@@ -6,6 +6,7 @@ ghost use Rattle.att_reader.specs.Plain.{kind_of};
 use crate::plain::{PlainKind, plain_kind};
 use insn_ir::EntryKind;
 use std::alloc::{AllocError, Global};
+use std::hash::{FoldHasher, Hasher};
 
 // How many lines are kept: each in the place of its hash, where the last that came stays.
 const PLACES: usize = 4096;
@@ -33,11 +34,9 @@ pub struct KnownLines {
 fn place_of(line: &[u8]) -> usize
     ensures { result < 4096 }
 {
-    let mut hash: u64 = 0;
-    for b in line {
-        hash = hash.rotate_left(5) ^ *b as u64;
-    }
-    (hash.wrapping_mul(0x9e37_79b9_7f4a_7c15) >> 32) as usize % PLACES
+    let mut hasher = FoldHasher::default();
+    hasher.write(line);
+    hasher.finish() as usize % PLACES
 }
 
 impl KnownLine {
@@ -63,6 +62,9 @@ impl KnownLines {
     pub fn find(&self, line: &[u8]) -> Option<PlainKind>
         ensures { IfSome result (λ k. kind_of k ≡ kind_of_piece line.now) }
     {
+        if LONGEST < line.len() {
+            return None;
+        }
         let place = place_of(line);
         if self.lines.len() <= place {
             return None;

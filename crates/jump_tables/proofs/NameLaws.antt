@@ -99,6 +99,24 @@ module _ {X : Type 0} (name : X → List ℕ) where
   place_new xs v n k e f g =
       place_more n (map name xs) f ∙ ap Some (length-map xs name ∙ sym (g ∙ or_len_none _ xs (absent xs v n e f)))
 
+  -- the keys after one has come that may be there
+  pub keys_with : (xs ys : List X) (v : X) (n : List ℕ) → name v ≡ n → ys ≡ cond (list_any (λ y. bytes_eq (name v) (name y)) xs) xs (xs ++ v ∷ []) → map name ys ≡ with_name (map name xs) n
+  keys_with xs ys v n e g = ap (map name) g ∙ by_test (list_any (λ y. bytes_eq (name v) (name y)) xs) (same e)
+    where
+      same : name v ≡ n → list_any (λ y. bytes_eq (name v) (name y)) xs ≡ has n (map name xs)
+      same q = ap (λ m. list_any (λ y. bytes_eq m (name y)) xs) q ∙ any_is name n xs
+
+      by_test : (b : Bool) → b ≡ has n (map name xs) → map name (cond b xs (xs ++ v ∷ [])) ≡ with_name (map name xs) n
+      by_test true q = ap (λ b. cond b (map name xs) (map name xs ++ n ∷ [])) q
+      by_test false q = map-append name xs (v ∷ []) ∙ ap (λ m. map name xs ++ m ∷ []) e ∙ ap (λ b. cond b (map name xs) (map name xs ++ n ∷ [])) q
+
+pub distinct_with : (n : List ℕ) (ns : List (List ℕ)) → AreDistinct ns → AreDistinct (with_name ns n)
+distinct_with n ns d = by_test (has n ns) refl
+  where
+    by_test : (b : Bool) → has n ns ≡ b → AreDistinct (cond b ns (ns ++ n ∷ []))
+    by_test true e = d
+    by_test false e = distinct_more n ns e d
+
 pub new_comes : (n : List ℕ) (ns : List (List ℕ)) → has n ns ≡ false → ns ++ n ∷ [] ≡ with_name ns n
 new_comes n ns e = ap (λ b. cond b ns (ns ++ n ∷ [])) (sym e)
 

@@ -3,10 +3,12 @@
 ghost use Rattle.std.specs.Prelude.{◌≡◌, ◌++◌, ◌&&◌, [], map, true, length, option_map, IfOk, OnOk};
 ghost use Rattle.std.specs.List.{list_any, list_all};
 ghost use Rattle.insn_ir.specs.declared.entry.Cell.{Cell};
+ghost use Rattle.jump_tables.specs.Classes.{class_of, classes_of};
 ghost use Rattle.jump_tables.specs.Sections.{Section, section_after, placed};
 ghost use Rattle.jump_tables.specs.Tables.{is_symbol, cell_names, file_tables, tables_in};
 ghost use Rattle.jump_tables.specs.Collected.{row_cells, cells_behind, table_start, unused, distinct_of, looked_up};
 
+use crate::class::{EntryClass, classes_of};
 use crate::collect::{Uses, uses_in};
 use crate::symbols::Symbols;
 use crate::table::{Table, Tables};
@@ -110,16 +112,50 @@ fn push_start(
     Ok(())
 }
 
+// The same, where the entry's class is known.
+fn code_behind(code: bool, class: EntryClass, kind: &EntryKind) -> bool
+    requires { class ≡ class_of kind.now }
+    ensures { (s : Section) → s.code ≡ code → result ≡ (section_after s kind.now).code }
+{
+    match class {
+        EntryClass::Section => code_after(code, kind),
+        _ => code,
+    }
+}
+
+fn push_start_of(
+    alloc: Global,
+    tables: &mut Vec<Table>,
+    class: EntryClass,
+    entry: &Entry,
+    code: bool,
+    behind: &[Entry],
+) -> Result<(), AllocError>
+    requires { class ≡ class_of entry.now.kind }
+    ensures { OnOk result (tables.new.items ≡ tables.old.items ++ table_start code entry.now behind.now) }
+{
+    match class {
+        EntryClass::Label => push_start(alloc, tables, entry, code, behind),
+        _ => Ok(()),
+    }
+}
+
 /// The tables, with no uses yet.
-fn starts_in(alloc: Global, entries: &[Entry]) -> Result<Vec<Table>, AllocError>
+fn starts_in(
+    alloc: Global,
+    entries: &[Entry],
+    classes: &[EntryClass],
+) -> Result<Vec<Table>, AllocError>
+    requires { classes.now ≡ classes_of entries.now }
     ensures { IfOk result (λ v. v.items ≡ map unused (file_tables (placed entries.now))) }
 {
     let mut tables = Vec::new(alloc);
     let mut code = true;
     for i in 0..entries.len() {
         let entry = &entries[i];
-        code = code_after(code, &entry.kind);
-        push_start(alloc, &mut tables, entry, code, &entries[i + 1..])?;
+        let class = classes[i];
+        code = code_behind(code, class, &entry.kind);
+        push_start_of(alloc, &mut tables, class, entry, code, &entries[i + 1..])?;
     }
     Ok(tables)
 }
@@ -184,14 +220,27 @@ fn all_with_uses(
     Ok(tables)
 }
 
+/// The jump tables of a file, as [`find_tables`] finds them, where the classes of its entries are known.
+pub fn find_tables_by_class(
+    alloc: Global,
+    entries: &[Entry],
+    classes: &[EntryClass],
+) -> Result<Tables, AllocError>
+    requires { classes.now ≡ classes_of entries.now }
+    ensures { IfOk result (λ ts. ts ≡ tables_in entries.now) }
+{
+    let starts = starts_in(alloc, entries, classes)?;
+    let labels = labels_of(alloc, &starts)?;
+    let uses = uses_in(alloc, &labels, entries)?;
+    all_with_uses(alloc, starts, &labels, &uses)
+}
+
 /// The jump tables of a file in order: each label outside code sections that `.quad` or `.8byte` entries with symbols
 /// alone follow directly, but for blanks between them, with its cells up to the first other entry, the jumps by it,
 /// and its first other use outside debug sections. The work is linear in the entries and in what is found.
 pub fn find_tables(alloc: Global, entries: &[Entry]) -> Result<Tables, AllocError>
     ensures { IfOk result (λ ts. ts ≡ tables_in entries.now) }
 {
-    let starts = starts_in(alloc, entries)?;
-    let labels = labels_of(alloc, &starts)?;
-    let uses = uses_in(alloc, &labels, entries)?;
-    all_with_uses(alloc, starts, &labels, &uses)
+    let classes = classes_of(alloc, entries)?;
+    find_tables_by_class(alloc, entries, &classes)
 }

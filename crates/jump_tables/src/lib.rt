@@ -10,7 +10,7 @@ mod uses;
 
 pub use class::{EntryClass, class_of, classes_of};
 pub use collect::is_debug_name;
-pub use find::find_tables;
+pub use find::{find_tables, find_tables_by_class};
 pub use symbols::Symbols;
 pub use table::{Table, Tables};
 pub use uses::{names_of, names_of_insn, symbol_of, table_jump_of};

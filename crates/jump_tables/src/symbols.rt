@@ -1,6 +1,6 @@
 // Symbols by number, in the order in which they come.
 
-ghost use Rattle.std.specs.Prelude.{◌≡◌, [], OnOk, OnErr, IfOk, Some, length, ◌<◌, IfSome};
+ghost use Rattle.std.specs.Prelude.{◌≡◌, not, [], OnOk, OnErr, IfOk, Some, length, ◌<◌, IfSome};
 ghost use Rattle.jump_tables.specs.Names.{has, with_name, place_of, AreDistinct};
 
 use indexmap::IndexSet;
@@ -68,5 +68,16 @@ impl Symbols {
         }
         let (number, _) = self.set.insert_full(Vec::from_slice(alloc, name)?)?;
         Ok(number)
+    }
+
+    /// Whether the symbol is new; it then comes last. One look-up in place of the two of [`Symbols::add`] where most symbols
+    /// are new. Where memory is wanting nothing changes.
+    pub fn add_new(&mut self, alloc: Global, name: &[u8]) -> Result<bool, AllocError>
+        ensures added { OnOk result (self.new ≡ with_name self.old name.now) }
+        ensures new { IfOk result (λ b. b ≡ not (has name.now self.old)) }
+        ensures err { OnErr result (self.new ≡ self.old) }
+    {
+        let (_, is_new) = self.set.insert_full(Vec::from_slice(alloc, name)?)?;
+        Ok(is_new)
     }
 }

@@ -1,6 +1,7 @@
 // Why each function of a file is copied as it is.
 
 ghost use Rattle.std.specs.Prelude.{◌≡◌, ℕ, List, map, IfOk};
+ghost use Rattle.jump_tables.specs.Classes.{classes_of};
 ghost use Rattle.jump_tables.specs.Names.{has, AreDistinct};
 ghost use Rattle.jump_tables.specs.Sections.{placed};
 ghost use Rattle.asm_unit.specs.Functions.{functions, parts, label_names, name_of};
@@ -17,7 +18,7 @@ use super::outside::LabelsOfFile;
 use crate::cause::FreezeCause;
 use crate::layout::Layout;
 use insn_ir::Entry;
-use jump_tables::Symbols;
+use jump_tables::{EntryClass, Symbols};
 use std::alloc::{AllocError, Global};
 
 /// Why each function of a file is copied as it is, in order, or None where no rule holds, for a file without a cause of its
@@ -29,6 +30,7 @@ use std::alloc::{AllocError, Global};
 pub fn function_causes(
     alloc: Global,
     entries: &[Entry],
+    classes: &[EntryClass],
     layout: &Layout,
     labels: &Labels,
     names: &[&[u8]],
@@ -38,6 +40,7 @@ pub fn function_causes(
     by_data: &[Option<u32>],
 ) -> Result<Vec<Option<FreezeCause>>, AllocError>
     requires numbered { AreNumbered 0 entries.now }
+    requires classes { classes.now ≡ classes_of entries.now }
     requires distinct { AreDistinct (label_names (placed entries.now)) }
     requires bounds { layout.now.bounds.items ≡ bounds_from 0 (parts (placed entries.now)) }
     requires owners { layout.now.owners.items ≡ owners_from 0 (parts (placed entries.now)) }
@@ -52,7 +55,7 @@ pub fn function_causes(
     let bounds = layout.bounds.as_slice();
     let owners = layout.owners.as_slice();
     let of_file = LabelsOfFile { labels, names };
-    let outside = of_file.first_uses(alloc, entries, owners, rows)?;
+    let outside = of_file.first_uses(alloc, entries, classes, owners, rows)?;
     let findings = FileFindings {
         entries,
         bounds,

@@ -2,14 +2,15 @@
 
 ghost use Rattle.std.specs.Prelude.{◌≡◌, ◌<◌, ◌≤◌, ℕ, not, ◌&&◌, map, length, None, replicate, slice_index_or, IfOk, IfSome, OnOk};
 ghost use Rattle.std.specs.List.{list_any};
+ghost use Rattle.jump_tables.specs.Classes.{class_of, classes_of};
 ghost use Rattle.jump_tables.specs.Uses.{names};
-ghost use Rattle.jump_tables.specs.Sections.{placed};
-ghost use Rattle.asm_unit.specs.OutsideUses.{is_place, is_used, NotedBy, first_outside};
+ghost use Rattle.jump_tables.specs.Sections.{Section, is_debug, section_after, placed};
+ghost use Rattle.asm_unit.specs.OutsideUses.{is_place, is_used, may_name, NotedBy, first_outside};
 
 use super::labels::Labels;
 use crate::reach::debug_after;
-use insn_ir::{Entry, Name};
-use jump_tables::names_of;
+use insn_ir::{Entry, EntryKind, Name};
+use jump_tables::{EntryClass, names_of};
 use std::alloc::{AllocError, Global};
 
 /// The labels of a file with the functions that they stand in, and the names of the functions in order.
@@ -39,6 +40,34 @@ fn none_yet(alloc: Global, count: usize) -> Result<Vec<Option<u32>>, AllocError>
         firsts.push(None)?;
     }
     Ok(firsts)
+}
+
+// Only a section directive begins or ends a debug section.
+fn debug_from(debug: bool, class: EntryClass, kind: &EntryKind) -> bool
+    requires { class ≡ class_of kind.now }
+    ensures { (s : Section) → is_debug s ≡ debug → result ≡ is_debug (section_after s kind.now) }
+{
+    if matches!(class, EntryClass::Section) {
+        debug_after(debug, kind)
+    } else {
+        debug
+    }
+}
+
+fn may_name(class: EntryClass) -> bool
+    ensures { result ≡ may_name class }
+{
+    matches!(
+        class,
+        EntryClass::Instruction
+            | EntryClass::Export
+            | EntryClass::FunctionType
+            | EntryClass::FunctionEnd
+            | EntryClass::Alias
+            | EntryClass::Words
+            | EntryClass::Bytes
+            | EntryClass::Opaque
+    )
 }
 
 impl LabelsOfFile<'_> {
@@ -83,12 +112,14 @@ impl LabelsOfFile<'_> {
         debug: bool,
         owner: usize,
         row: usize,
+        class: EntryClass,
         entry: &Entry,
     ) -> Result<(), AllocError>
-        requires { length firsts.old ≡ length self.now.names.now }
+        requires even { length firsts.old ≡ length self.now.names.now }
+        requires class { class ≡ class_of entry.now.kind }
         ensures { OnOk result (NotedBy (λ j. not debug && list_any (λ n. is_used self.now owner row n j) (names entry.now.kind)) entry.now.serial firsts.old firsts.new) }
     {
-        if !debug {
+        if !debug && may_name(class) {
             let named = names_of(alloc, &entry.kind)?;
             self.note_names(firsts, owner, row, entry.serial, &named);
         }
@@ -102,9 +133,11 @@ impl LabelsOfFile<'_> {
         &self,
         alloc: Global,
         entries: &[Entry],
+        classes: &[EntryClass],
         owners: &[usize],
         rows: &[usize],
     ) -> Result<Vec<Option<u32>>, AllocError>
+        requires classes { classes.now ≡ classes_of entries.now }
         requires owners { length owners.now ≡ length entries.now }
         requires rows { length rows.now ≡ length entries.now }
         ensures even { IfOk result (λ v. length v.items ≡ length self.now.names.now) }
@@ -114,8 +147,9 @@ impl LabelsOfFile<'_> {
         let mut debug = false;
         for i in 0..entries.len() {
             let entry = &entries[i];
-            debug = debug_after(debug, &entry.kind);
-            self.note_entry(alloc, &mut firsts, debug, owners[i], rows[i], entry)?;
+            let class = classes[i];
+            debug = debug_from(debug, class, &entry.kind);
+            self.note_entry(alloc, &mut firsts, debug, owners[i], rows[i], class, entry)?;
         }
         Ok(firsts)
     }

@@ -25,11 +25,11 @@ loop-i-preserved c =
     let g : e ≡ get_or es i e = c.index-entries-i.is in
     let w : Standing = c.loop-i.walk in
     let s : Section = section_of_ref c.loop-i.section in
-    let t : section_of_ref c.after-section.result ≡ section_after s (get_or es i e).kind = c.after-section.ensures in
+    let t : section_of_ref c.from-section.result ≡ section_after s (get_or es i e).kind = c.from-section.ensures in
     let l : i < length es = c.loop-i-test.true in
     let b : Bool = get_or c.args.marks.now i false in
     let h : b ≡ is_ended (label_name e.kind) (drop (i + 1) es) = ap (λ ms. get_or ms i false) c.requires.marked ∙ ended_at es i e false l g in
-    let s' : Section = section_of_ref c.after-section.result in
+    let s' : Section = section_of_ref c.from-section.result in
     let u : s' ≡ section_after s e.kind = t ∙ ap (λ x. section_after s x.kind) (sym g) in
     let v : c.walk_on.new.walk ≡ step_of w b s' e.kind = c.in_ok-walk_on.ensures.step ∙ ap (λ x. step_of w b s' x.kind) (sym g) in
     record {

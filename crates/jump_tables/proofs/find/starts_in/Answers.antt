@@ -18,13 +18,13 @@ loop-i-preserved c =
     let es = c.args.entries.now in
     let s = c.loop-i.invariant.section in
     let e = c.index-entries-i.result in
-    let code = c.code_after-code.ensures s c.loop-i.invariant.code_is in
+    let code = c.code_behind-code.ensures s c.loop-i.invariant.code_is in
     record {
       section = section_after s e.kind;
       code_is = sym code;
       with_rest =
           ap (λ ts. ts ++ map unused (file_tables (placed_from (section_after s e.kind) (drop (c.loop-i.i + 1) es))))
-          (c.in_ok-push_start.ensures ∙ ap (λ xs. c.loop-i.tables.items ++ table_start c.code_after-code.result e xs) (take_rest es (c.loop-i.i + 1)))
-          ∙ start_more s c.code_after-code.result es c.loop-i.i e c.loop-i.tables.items c.loop-i-test.true c.index-entries-i.is code
+          (c.in_ok-push_start_of.ensures ∙ ap (λ xs. c.loop-i.tables.items ++ table_start c.code_behind-code.result e xs) (take_rest es (c.loop-i.i + 1)))
+          ∙ start_more s c.code_behind-code.result es c.loop-i.i e c.loop-i.tables.items c.loop-i-test.true c.index-entries-i.is code
           ∙ c.loop-i.invariant.with_rest;
     }

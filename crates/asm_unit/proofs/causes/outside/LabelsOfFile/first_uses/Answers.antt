@@ -18,14 +18,14 @@ loop-i-init c =
           (ap (λ xs. get_or xs j None) none ∙ get_or-replicate (length c.args.self.now.names.now) j None None l);
     }
 
-pub note_entry-requires : goal.note_entry-requires
-note_entry-requires c = ap length c.deref_mut.ensures.value ∙ c.loop-i.invariant.even
+pub note_entry-requires-clause-even : goal.note_entry-requires-clause-even
+note_entry-requires-clause-even c = ap length c.deref_mut.ensures.value ∙ c.loop-i.invariant.even
 
 pub loop-i-preserved : goal.loop-i-preserved
 loop-i-preserved c =
     let e = c.index-entries-i.result in
     let s = c.loop-i.invariant.section in
-    let debug = c.debug_after-debug.ensures s c.loop-i.invariant.debug_is in
+    let debug = c.debug_from-debug.ensures s c.loop-i.invariant.debug_is in
     let noted = c.in_ok-note_entry.ensures in
     let whole = written_whole c.loop-i.firsts.len c.note_entry.new.firsts c.loop-i.firsts.items
     (noted.even ∙ ap length c.deref_mut.ensures.value ∙ omega (arith, c.loop-i.firsts.ok.0)) (omega (arith, c.loop-i.firsts.ok.0)) in
@@ -35,7 +35,7 @@ loop-i-preserved c =
       debug_is = sym debug;
       left = λ j l.
           ap (λ xs. first_of (get_or xs j None) (first_outside c.args.self.now j (placed_from (section_after s e.kind) (drop (c.loop-i.i + 1) c.args.entries.now)) (drop (c.loop-i.i + 1) c.args.owners.now) (drop (c.loop-i.i + 1) c.args.rows.now))) whole
-          ∙ uses_more c.args.self.now j s c.debug_after-debug.result c.args.entries.now c.args.owners.now c.args.rows.now c.loop-i.i e
+          ∙ uses_more c.args.self.now j s c.debug_from-debug.result c.args.entries.now c.args.owners.now c.args.rows.now c.loop-i.i e
           (get_or c.deref_mut.result.now j None) (get_or c.note_entry.new.firsts j None) c.loop-i-test.true c.requires.owners c.requires.rows c.index-entries-i.is debug
           (noted.each j (omega (arith, l, ap length c.deref_mut.ensures.value, c.loop-i.invariant.even)))
           ∙ ap (λ xs. first_of (get_or xs j None) (first_outside c.args.self.now j (placed_from s (drop c.loop-i.i c.args.entries.now)) (drop c.loop-i.i c.args.owners.now) (drop c.loop-i.i c.args.rows.now))) c.deref_mut.ensures.value

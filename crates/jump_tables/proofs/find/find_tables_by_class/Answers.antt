@@ -3,7 +3,7 @@ use Rattle.std.proofs.lemmas.Result.{IfOk-weaker}
 use Rattle.jump_tables.specs.Tables.{tables_in}
 use Rattle.jump_tables.specs.Collected.{looked_up, distinct_of}
 use Rattle.jump_tables.proofs.StartLaws.{whole}
-use Rattle.jump_tables.proofs.find.find_tables.Goals as goal
+use Rattle.jump_tables.proofs.find.find_tables_by_class.Goals as goal
 
 pub returns : goal.returns
 returns c =
