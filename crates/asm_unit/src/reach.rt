@@ -100,8 +100,8 @@ impl Reached {
     ) -> Result<(), AllocError>
         ensures { OnOk result (searching self.new (map (λ n. n.now) queue.new.items) ≡ visited serial (searching self.old (map (λ n. n.now) queue.old.items)) name.now) }
     {
-        if self.names.number_of(name).is_none() {
-            self.names.add(alloc, name)?;
+        if !self.names.has(name) {
+            self.names.add_new(alloc, name)?;
             self.firsts.push(serial)?;
             queue.push(name)?;
         }
