@@ -167,7 +167,6 @@ fn finds_what_stands_for_no_function(rt: HostRuntime) -> Result<(), Fail> {
         let classes = classes_of(alloc, &entries)?;
         let layout = lay_out(alloc, &entries, &classes)?;
         let names = function_names(alloc, &entries, &layout.bounds)?;
-        let classes = classes_of(alloc, &entries)?;
         let leading = leading_names(alloc, &entries, &classes, &names)?;
         assert_eq!(rt; leading.has(name.as_bytes()), leads, "{name}");
     }
@@ -195,7 +194,6 @@ fn finds_what_reaches_functions(rt: HostRuntime) -> Result<(), Fail> {
     let classes = classes_of(alloc, &entries)?;
     let layout = lay_out(alloc, &entries, &classes)?;
     let names = function_names(alloc, &entries, &layout.bounds)?;
-    let classes = classes_of(alloc, &entries)?;
     let aliases = Aliases::of_entries(alloc, &entries, &classes)?;
     let uses = uses_of_functions(alloc, &entries, &classes, &aliases, &names)?;
     assert_eq!(rt; uses.home.as_slice(), [false, true].as_slice());
