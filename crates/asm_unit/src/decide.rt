@@ -16,7 +16,7 @@ use crate::cause::FreezeCause;
 use crate::causes::{Labels, file_cause, function_causes, function_names, table_rows};
 use crate::defined_names::DefinedNames;
 use crate::layout::{FunctionBounds, Layout, lay_out};
-use crate::leading::leading_names;
+use crate::leading::LeadingNames;
 use crate::owned_tables::table_owners;
 use crate::reached_functions::uses_of_functions;
 use crate::table_cells::TableCells;
@@ -104,7 +104,7 @@ fn decide_functions(
     let rows = table_rows(alloc, entries, tables.as_slice(), &numbers)?;
     let aliases = Aliases::of_entries(alloc, entries)?;
     let uses = uses_of_functions(alloc, entries, &aliases, &names)?;
-    let leading = leading_names(alloc, entries, &names)?;
+    let leading = LeadingNames::of(alloc, entries, &names, &labels, &aliases)?;
     let causes = function_causes(
         alloc,
         entries,
@@ -116,6 +116,7 @@ fn decide_functions(
         &uses.with_offset,
         &uses.by_data,
     )?;
+    drop(leading);
     let functions = decided_functions(alloc, &names, &uses.home, &causes, &layout.bounds)?;
     let cells = TableCells::of(alloc, tables.as_slice(), &numbers, &labels, &names)?;
     let Layout { bounds: _, owners } = layout;
