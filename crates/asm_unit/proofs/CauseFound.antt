@@ -22,6 +22,7 @@ use Rattle.asm_unit.specs.Causes.{Ascend}
 use Rattle.asm_unit.specs.RuleFirsts.{firsts_of}
 use Rattle.asm_unit.specs.CodeRules.{is_local, is_sought, first_owned}
 use Rattle.asm_unit.specs.FileNames.{scene}
+use Rattle.asm_unit.specs.Leading.{leads}
 use Rattle.asm_unit.specs.FileFindings.{AreFindings, no_bounds, bounds_in, HasRoom, AreNames, code_in, owners_in, range_in, found_by, IsFound}
 use Rattle.asm_unit.proofs.Whole.{whole}
 use Rattle.asm_unit.proofs.CauseParts.{There, there, parts_labelled, bounds_many, owners_many}
@@ -120,8 +121,8 @@ module _ (v : FileFindings) (found : AreFindings v) (place : ℕ) (within : plac
 
   leads_same : (f : FunctionNames) → AreNames v place f → (n : List ℕ) → leads_elsewhere (scene file function) n ≡ is_sought f Sought.Elsewhere n
   leads_same f named n =
-      elsewhere_swap file place function bounds stands ascend f named.number (local_same f named) f.leading.now (has n (defined file))
-      (list_any (λ g. has_or_alias (settings file) g (n ∷ [])) (function_names file)) n (ap (has n) named.leading ∙ found.leading n)
+      elsewhere_swap file place function bounds stands ascend f named.number (local_same f named) (leads f.leading.now n) (has n (defined file))
+      (list_any (λ g. has_or_alias (settings file) g (n ∷ [])) (function_names file)) n (ap (λ l. leads l n) named.leading ∙ found.leading n)
 
   by_owner : (f : FunctionNames) (test : EntryKind → Bool) → first_owned test f.number (code_in v place) (owners_in v place)
       ≡ first_owned test f.number (take (bounds.end - bounds.label) (drop bounds.label (map (λ p. p.entry) file))) (take (bounds.end - bounds.label) (drop bounds.label (owners_from 0 (parts file))))

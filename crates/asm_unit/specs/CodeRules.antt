@@ -3,7 +3,6 @@ use Rattle.std.specs.Prelude.{ℕ, Bool, not, ◌&&◌, List, [], ◌∷◌, byt
 use Rattle.std.specs.List.{list_any}
 use Rattle.insn_ir.specs.declared.entry.Entry.{Entry}
 use Rattle.insn_ir.specs.declared.entry.EntryKind.{EntryKind}
-use Rattle.jump_tables.specs.Names.{has}
 use Rattle.jump_tables.specs.Uses.{names}
 use Rattle.asm_unit.specs.declared.causes.code.CodeRule.{CodeRule}
 use Rattle.asm_unit.specs.declared.causes.code.Sought.{Sought}
@@ -11,13 +10,14 @@ use Rattle.asm_unit.specs.declared.causes.code.FunctionNames.{FunctionNames}
 use Rattle.asm_unit.specs.Names.{jump_names, value_names}
 use Rattle.asm_unit.specs.Freeze.{is_opaque, is_data, is_handing_out}
 use Rattle.asm_unit.specs.LabelOwners.{label_number}
+use Rattle.asm_unit.specs.Leading.{leads}
 
 abbrev pub is_local : FunctionNames → List ℕ → Bool
 is_local f n = nat_eq (label_number f.labels.now.names f.labels.now.owners n) f.number && not (bytes_eq n f.name.now)
 
 abbrev pub is_sought : FunctionNames → Sought → List ℕ → Bool
 is_sought f Sought.Local n = is_local f n
-is_sought f Sought.Elsewhere n = has n f.leading.now && not (is_local f n)
+is_sought f Sought.Elsewhere n = not (is_local f n) && leads f.leading.now n
 
 -- the names that an export or an alias hands out
 abbrev pub handed_names : EntryKind → List (List ℕ)

@@ -1,7 +1,7 @@
 -- What the walks over a file have found.
 use Rattle.std.specs.Prelude.{◌≡◌, ℕ, suc, ◌-◌, ◌^◌, ◌<◌, ◌≤◌, List, [], map, length, take, drop, find, None, option_map, slice_get, slice_index_or}
 use Rattle.insn_ir.specs.declared.entry.Entry.{Entry}
-use Rattle.jump_tables.specs.Names.{has, AreDistinct}
+use Rattle.jump_tables.specs.Names.{AreDistinct}
 use Rattle.jump_tables.specs.Sections.{placed}
 use Rattle.asm_unit.specs.declared.layout.FunctionBounds.{FunctionBounds}
 use Rattle.asm_unit.specs.declared.causes.code.CodeRule.{CodeRule}
@@ -16,6 +16,7 @@ use Rattle.asm_unit.specs.LabelOwners.{label_number, first_label}
 use Rattle.asm_unit.specs.Causes.{first_where, named_outside, offset_from, reached_by_data}
 use Rattle.asm_unit.specs.CodeRules.{breaks, first_owned}
 use Rattle.asm_unit.specs.FileNames.{scene, leads_on}
+use Rattle.asm_unit.specs.Leading.{leads}
 
 -- what was found of a file that has no cause of its own
 pub record AreFindings (v : FileFindings) : Type 0 where
@@ -25,7 +26,7 @@ pub record AreFindings (v : FileFindings) : Type 0 where
   pub distinct : AreDistinct (label_names (placed v.entries.now))
   pub labels : (n : List ℕ) → label_number v.labels.now.names v.labels.now.owners n ≡ first_label v.entries.now v.owners.now n
   pub names : map (λ n. n.now) v.names.now ≡ map name_of (functions (placed v.entries.now))
-  pub leading : (n : List ℕ) → has n v.leading.now ≡ leads_on (placed v.entries.now) n
+  pub leading : (n : List ℕ) → leads v.leading.now n ≡ leads_on (placed v.entries.now) n
   pub outside : v.outside.now ≡ map (λ f. first_where (named_outside (scene (placed v.entries.now) f)) (placed v.entries.now)) (functions (placed v.entries.now))
   pub with_offset : v.with_offset.now ≡ map (λ f. first_where (offset_from (scene (placed v.entries.now) f)) (placed v.entries.now)) (functions (placed v.entries.now))
   pub by_data : v.by_data.now ≡ map (λ f. first_where (reached_by_data (scene (placed v.entries.now) f)) (placed v.entries.now)) (functions (placed v.entries.now))

@@ -1,11 +1,17 @@
 // What is decided of a file when it is read.
 
-ghost use Rattle.std.specs.Prelude.{◌≡◌, ◌<◌, ◌^◌, List, [], length, map, Some, None, IfOk};
+ghost use Rattle.std.specs.Prelude.{◌≡◌, ◌<◌, ◌^◌, ℕ, List, [], length, map, Some, None, IfOk};
 ghost use Rattle.jump_tables.specs.Classes.{classes_of};
-ghost use Rattle.jump_tables.specs.Names.{AreDistinct};
+ghost use Rattle.jump_tables.specs.Names.{has, AreDistinct};
 ghost use Rattle.jump_tables.specs.Sections.{placed};
-ghost use Rattle.asm_unit.specs.Functions.{functions, label_names};
-ghost use Rattle.asm_unit.specs.Freeze.{file_cause};
+ghost use Rattle.jump_tables.specs.Tables.{tables_in};
+ghost use Rattle.asm_unit.specs.Functions.{functions, label_names, name_of, parts};
+ghost use Rattle.asm_unit.specs.Aliases.{is_home, settings};
+ghost use Rattle.asm_unit.specs.Freeze.{cause, file_cause};
+ghost use Rattle.asm_unit.specs.LabelOwners.{label_number, first_label};
+ghost use Rattle.asm_unit.specs.Layout.{bounds_from, owners_from};
+ghost use Rattle.asm_unit.specs.ReachSteps.{IsTableOf};
+ghost use Rattle.asm_unit.specs.TableRows.{AreTableOwners};
 ghost use Rattle.asm_unit.specs.Held.{Held, AreNumbered, entries_of};
 ghost use Rattle.asm_unit.specs.Decisions.{decision, decisions};
 ghost use Rattle.asm_unit.specs.DefinedNames.{Keeps};
@@ -16,12 +22,12 @@ use crate::cause::FreezeCause;
 use crate::causes::{Labels, file_cause, function_causes, function_names, table_rows};
 use crate::defined_names::DefinedNames;
 use crate::layout::{FunctionBounds, Layout, lay_out};
-use crate::leading::leading_names;
+use crate::leading::LeadingNames;
 use crate::owned_tables::table_owners;
-use crate::reached_functions::uses_of_functions;
+use crate::reached_functions::{FunctionUses, uses_of_functions};
 use crate::table_cells::TableCells;
 use insn_ir::{Entry, Name};
-use jump_tables::{EntryClass, Tables, classes_of, find_tables_by_class};
+use jump_tables::{EntryClass, Table, Tables, classes_of, find_tables_by_class};
 use std::alloc::{AllocError, Global};
 
 /// What was decided of a function: its name, whether calls or jumps of the file lead to it, why it is copied as it is, if so,
@@ -75,6 +81,60 @@ fn decided_functions(
     Ok(functions)
 }
 
+// For each function whether calls or jumps of the file lead to it, and why it is copied as it is.
+#[derive(Drop)]
+struct JudgedFunctions {
+    home: Vec<bool>,
+    causes: Vec<Option<FreezeCause>>,
+}
+
+fn judge_functions(
+    alloc: Global,
+    entries: &[Entry],
+    classes: &[EntryClass],
+    layout: &Layout,
+    labels: &Labels,
+    names: &[&[u8]],
+    tables: &[Table],
+    table_owners: &[usize],
+    aliases: &Aliases,
+) -> Result<JudgedFunctions, AllocError>
+    requires numbered { AreNumbered 0 entries.now }
+    requires classes { classes.now ≡ classes_of entries.now }
+    requires distinct { AreDistinct (label_names (placed entries.now)) }
+    requires bounds { layout.now.bounds.items ≡ bounds_from 0 (parts (placed entries.now)) }
+    requires owners { layout.now.owners.items ≡ owners_from 0 (parts (placed entries.now)) }
+    requires labels { (n : List ℕ) → label_number labels.now.names labels.now.owners n ≡ first_label entries.now layout.now.owners.items n }
+    requires label_names { (n : List ℕ) → has n labels.now.names ≡ has n (label_names (placed entries.now)) }
+    requires names { map (λ n. n.now) names.now ≡ map name_of (functions (placed entries.now)) }
+    requires tables { tables.now ≡ tables_in entries.now }
+    requires table_owners { AreTableOwners (placed entries.now) table_owners.now }
+    requires aliases { IsTableOf (settings (placed entries.now)) aliases.now }
+    ensures home { IfOk result (λ j. j.home.items ≡ map (λ f. is_home (placed entries.now) (name_of f)) (functions (placed entries.now))) }
+    ensures causes { IfOk result (λ j. j.causes.items ≡ map (cause (placed entries.now)) (functions (placed entries.now))) }
+{
+    let rows = table_rows(alloc, entries, tables, table_owners)?;
+    let FunctionUses {
+        home,
+        with_offset,
+        by_data,
+    } = uses_of_functions(alloc, entries, classes, aliases, names)?;
+    let leading = LeadingNames::of(alloc, entries, classes, names, labels, aliases)?;
+    let causes = function_causes(
+        alloc,
+        entries,
+        classes,
+        layout,
+        labels,
+        names,
+        &rows,
+        &leading,
+        &with_offset,
+        &by_data,
+    )?;
+    Ok(JudgedFunctions { home, causes })
+}
+
 // The functions of a file that isn't frozen.
 fn decide_functions(
     alloc: Global,
@@ -101,23 +161,19 @@ fn decide_functions(
         &names,
         &layout.owners,
     )?;
-    let rows = table_rows(alloc, entries, tables.as_slice(), &numbers)?;
     let aliases = Aliases::of_entries(alloc, entries, classes)?;
-    let uses = uses_of_functions(alloc, entries, classes, &aliases, &names)?;
-    let leading = leading_names(alloc, entries, classes, &names)?;
-    let causes = function_causes(
+    let judged = judge_functions(
         alloc,
         entries,
         classes,
         &layout,
         &labels,
         &names,
-        &rows,
-        &leading,
-        &uses.with_offset,
-        &uses.by_data,
+        tables.as_slice(),
+        &numbers,
+        &aliases,
     )?;
-    let functions = decided_functions(alloc, &names, &uses.home, &causes, &layout.bounds)?;
+    let functions = decided_functions(alloc, &names, &judged.home, &judged.causes, &layout.bounds)?;
     let cells = TableCells::of(alloc, tables.as_slice(), &numbers, &labels, &names)?;
     let Layout { bounds: _, owners } = layout;
     Ok(Decided {

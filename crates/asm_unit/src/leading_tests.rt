@@ -2,9 +2,9 @@ ghost use Rattle.std.specs.Prelude.{◌<◌, ◌^◌, length, IfOk};
 ghost use Rattle.asm_unit.specs.Held.{AreNumbered};
 
 use crate::aliases::Aliases;
-use crate::causes::function_names;
+use crate::causes::{Labels, function_names};
 use crate::layout::lay_out;
-use crate::leading::leading_names;
+use crate::leading::LeadingNames;
 use crate::reached_functions::uses_of_functions;
 use insn_ir::{
     Arg, Atom, Base, Cell, CellList, DirectiveKind, Disp, Entry, EntryKind, Insn, Mem, Name,
@@ -167,7 +167,9 @@ fn finds_what_stands_for_no_function(rt: HostRuntime) -> Result<(), Fail> {
         let classes = classes_of(alloc, &entries)?;
         let layout = lay_out(alloc, &entries, &classes)?;
         let names = function_names(alloc, &entries, &layout.bounds)?;
-        let leading = leading_names(alloc, &entries, &classes, &names)?;
+        let labels = Labels::of(alloc, &entries, &layout.owners)?;
+        let aliases = Aliases::of_entries(alloc, &entries, &classes)?;
+        let leading = LeadingNames::of(alloc, &entries, &classes, &names, &labels, &aliases)?;
         assert_eq!(rt; leading.has(name.as_bytes()), leads, "{name}");
     }
     Ok(())

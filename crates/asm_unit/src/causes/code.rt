@@ -8,8 +8,9 @@ ghost use Rattle.asm_unit.specs.Names.{is_direct_op, jump_names, value_names};
 ghost use Rattle.asm_unit.specs.CodeRules.{is_local, is_sought, handed_names, breaks, first_owned};
 
 use super::labels::Labels;
+use crate::leading::LeadingNames;
 use insn_ir::{Arg, DirectiveKind, Entry, EntryKind, Insn, Name, Op};
-use jump_tables::{Symbols, symbol_of};
+use jump_tables::symbol_of;
 
 /// The rules that look at the code of a function alone.
 #[derive(Clone, Copy, PartialEq, Eq, Debug)]
@@ -40,7 +41,7 @@ pub enum Sought {
 #[derive(Clone, Copy)]
 pub struct FunctionNames<'a> {
     pub labels: &'a Labels,
-    pub leading: &'a Symbols,
+    pub leading: &'a LeadingNames<'a>,
     pub number: usize,
     pub name: &'a [u8],
 }
@@ -89,7 +90,7 @@ impl FunctionNames<'_> {
     {
         match sought {
             Sought::Local => self.is_local(name),
-            Sought::Elsewhere => self.leading.has(name.as_slice()) && !self.is_local(name),
+            Sought::Elsewhere => !self.is_local(name) && self.leading.has(name.as_slice()),
         }
     }
 

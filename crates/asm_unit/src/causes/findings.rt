@@ -13,8 +13,8 @@ use super::range::{LONGEST_RANGE, first_exception_table, first_mark, serial_behi
 use super::slices::{entries_between, owners_between};
 use crate::cause::FreezeCause;
 use crate::layout::FunctionBounds;
+use crate::leading::LeadingNames;
 use insn_ir::Entry;
-use jump_tables::Symbols;
 use std::alloc::{AllocError, Global};
 
 /// What the walks over a file have found.
@@ -29,7 +29,7 @@ pub struct FileFindings<'a> {
     /// The functions' names.
     pub names: &'a [&'a [u8]],
     /// The names of the file that stand for no function.
-    pub leading: &'a Symbols,
+    pub leading: &'a LeadingNames<'a>,
     /// For each function the first use of a local label from outside.
     pub outside: &'a [Option<u32>],
     /// For each function the first instruction that names it with an offset.

@@ -2,7 +2,7 @@
 
 ghost use Rattle.std.specs.Prelude.{◌≡◌, ℕ, List, map, IfOk};
 ghost use Rattle.jump_tables.specs.Classes.{classes_of};
-ghost use Rattle.jump_tables.specs.Names.{has, AreDistinct};
+ghost use Rattle.jump_tables.specs.Names.{AreDistinct};
 ghost use Rattle.jump_tables.specs.Sections.{placed};
 ghost use Rattle.asm_unit.specs.Functions.{functions, parts, label_names, name_of};
 ghost use Rattle.asm_unit.specs.LabelOwners.{label_number, first_label};
@@ -11,14 +11,16 @@ ghost use Rattle.asm_unit.specs.Held.{AreNumbered};
 ghost use Rattle.asm_unit.specs.Layout.{bounds_from, owners_from};
 ghost use Rattle.asm_unit.specs.Causes.{first_where, offset_from, reached_by_data};
 ghost use Rattle.asm_unit.specs.FileNames.{scene, leads_on, AreRows};
+ghost use Rattle.asm_unit.specs.Leading.{leads};
 
 use super::findings::FileFindings;
 use super::labels::Labels;
 use super::outside::LabelsOfFile;
 use crate::cause::FreezeCause;
 use crate::layout::Layout;
+use crate::leading::LeadingNames;
 use insn_ir::Entry;
-use jump_tables::{EntryClass, Symbols};
+use jump_tables::EntryClass;
 use std::alloc::{AllocError, Global};
 
 /// Why each function of a file is copied as it is, in order, or None where no rule holds, for a file without a cause of its
@@ -35,7 +37,7 @@ pub fn function_causes(
     labels: &Labels,
     names: &[&[u8]],
     rows: &[usize],
-    leading: &Symbols,
+    leading: &LeadingNames,
     with_offset: &[Option<u32>],
     by_data: &[Option<u32>],
 ) -> Result<Vec<Option<FreezeCause>>, AllocError>
@@ -47,7 +49,7 @@ pub fn function_causes(
     requires labels { (n : List ℕ) → label_number labels.now.names labels.now.owners n ≡ first_label entries.now layout.now.owners.items n }
     requires names { map (λ n. n.now) names.now ≡ map name_of (functions (placed entries.now)) }
     requires rows { AreRows (placed entries.now) rows.now }
-    requires leading { (n : List ℕ) → has n leading.now ≡ leads_on (placed entries.now) n }
+    requires leading { (n : List ℕ) → leads leading.now n ≡ leads_on (placed entries.now) n }
     requires with_offset { with_offset.now ≡ map (λ f. first_where (offset_from (scene (placed entries.now) f)) (placed entries.now)) (functions (placed entries.now)) }
     requires by_data { by_data.now ≡ map (λ f. first_where (reached_by_data (scene (placed entries.now) f)) (placed entries.now)) (functions (placed entries.now)) }
     ensures { IfOk result (λ v. v.items ≡ map (cause (placed entries.now)) (functions (placed entries.now))) }
