@@ -151,7 +151,7 @@ fn decide_functions(
 {
     let layout = lay_out(alloc, entries, classes)?;
     let names = function_names(alloc, entries, &layout.bounds)?;
-    let labels = Labels::of(alloc, entries, &layout.owners)?;
+    let labels = Labels::of(alloc, entries, classes, &layout.owners)?;
     let tables = find_tables_by_class(alloc, entries, classes)?;
     let numbers = table_owners(
         alloc,
@@ -216,7 +216,7 @@ fn decide_nothing(
 {
     let owners = unowned(alloc, entries.len())?;
     let names = DefinedNames {
-        labels: Labels::of(alloc, entries, &owners)?,
+        labels: Labels::of(alloc, entries, classes, &owners)?,
         aliases: Aliases::of_entries(alloc, entries, classes)?,
         cells: TableCells::new(alloc),
     };
@@ -240,7 +240,7 @@ pub fn decide(alloc: Global, frozen: Option<u32>, entries: &[Entry]) -> Result<D
     ensures keeps { IfOk result (λ d. (hs : List Held) → entries_of hs ≡ entries.now → Keeps hs d.functions.items d.owners.items d.tables d.table_owners.items d.names) }
 {
     let classes = classes_of(alloc, entries)?;
-    match file_cause(alloc, frozen, entries)? {
+    match file_cause(alloc, frozen, entries, &classes)? {
         Some(cause) => decide_nothing(alloc, cause, entries, &classes),
         None => decide_functions(alloc, entries, &classes),
     }

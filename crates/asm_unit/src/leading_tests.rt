@@ -167,7 +167,7 @@ fn finds_what_stands_for_no_function(rt: HostRuntime) -> Result<(), Fail> {
         let classes = classes_of(alloc, &entries)?;
         let layout = lay_out(alloc, &entries, &classes)?;
         let names = function_names(alloc, &entries, &layout.bounds)?;
-        let labels = Labels::of(alloc, &entries, &layout.owners)?;
+        let labels = Labels::of(alloc, &entries, &classes, &layout.owners)?;
         let aliases = Aliases::of_entries(alloc, &entries, &classes)?;
         let leading = LeadingNames::of(alloc, &entries, &classes, &names, &labels, &aliases)?;
         assert_eq!(rt; leading.has(name.as_bytes()), leads, "{name}");

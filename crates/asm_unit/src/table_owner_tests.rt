@@ -128,7 +128,7 @@ fn owners_in(alloc: Global, entries: &[Entry]) -> Result<Vec<usize>, AllocError>
     let layout = lay_out(alloc, entries, &classes)?;
     let owners = layout.owners.as_slice();
     let names = function_names(alloc, entries, layout.bounds.as_slice())?;
-    let labels = Labels::of(alloc, entries, owners)?;
+    let labels = Labels::of(alloc, entries, &classes, owners)?;
     let tables = find_tables(alloc, entries)?;
     table_owners(
         alloc,
@@ -143,7 +143,7 @@ fn owners_in(alloc: Global, entries: &[Entry]) -> Result<Vec<usize>, AllocError>
 // The numbers of the functions whose tables the tables are, and none where a label stands twice.
 fn numbers_in(alloc: Global, lines: &[Line]) -> Result<Vec<usize>, AllocError> {
     let entries = entries_of(alloc, lines)?;
-    match file_cause(alloc, None, &entries)? {
+    match file_cause(alloc, None, &entries, &classes_of(alloc, &entries)?)? {
         Some(_cause) => Ok(Vec::new(alloc)),
         None => owners_in(alloc, &entries),
     }

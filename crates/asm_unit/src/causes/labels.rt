@@ -1,6 +1,7 @@
 // The labels of a file, and the functions that they stand in.
 
 ghost use Rattle.std.specs.Prelude.{◌≡◌, ◌<◌, ◌||◌, length, map, List, ℕ, IfOk, OnOk};
+ghost use Rattle.jump_tables.specs.Classes.{class_of, classes_of};
 ghost use Rattle.jump_tables.specs.Names.{has};
 ghost use Rattle.jump_tables.specs.Sections.{placed};
 ghost use Rattle.jump_tables.specs.Tables.{label_name};
@@ -8,7 +9,7 @@ ghost use Rattle.asm_unit.specs.Functions.{label_names};
 ghost use Rattle.asm_unit.specs.LabelOwners.{label_number, no_labels, noted_label, first_label, IsPlaceOf, target_within};
 
 use insn_ir::{Entry, EntryKind};
-use jump_tables::Symbols;
+use jump_tables::{EntryClass, Symbols};
 use std::alloc::{AllocError, Global};
 use std::marker::Model;
 
@@ -90,27 +91,48 @@ impl Labels {
         ensures { OnOk result (self.new ≡ noted_label self.old (label_name entry.now.kind) owner entry.now.serial) }
     {
         if let EntryKind::Label(name) = &entry.kind
-            && !self.names.has(name.as_slice())
+            && self.names.add_new(alloc, name.as_slice())?
         {
             self.places.push(LabelPlace {
                 owner,
                 serial: entry.serial,
             })?;
-            self.names.add(alloc, name.as_slice())?;
         }
         Ok(())
     }
 
+    fn note_by_class(
+        &mut self,
+        alloc: Global,
+        class: EntryClass,
+        entry: &Entry,
+        owner: usize,
+    ) -> Result<(), AllocError>
+        requires { class ≡ class_of entry.now.kind }
+        ensures { OnOk result (self.new ≡ noted_label self.old (label_name entry.now.kind) owner entry.now.serial) }
+    {
+        match class {
+            EntryClass::Label => self.note(alloc, entry, owner),
+            _ => Ok(()),
+        }
+    }
+
     /// The labels of these entries, of which each stands in the code of the function of that number.
-    pub fn of(alloc: Global, entries: &[Entry], owners: &[usize]) -> Result<Labels, AllocError>
-        requires { length owners.now ≡ length entries.now }
+    pub fn of(
+        alloc: Global,
+        entries: &[Entry],
+        classes: &[EntryClass],
+        owners: &[usize],
+    ) -> Result<Labels, AllocError>
+        requires classes { classes.now ≡ classes_of entries.now }
+        requires owners { length owners.now ≡ length entries.now }
         ensures owners { IfOk result (λ l. (n : List ℕ) → label_number l.names l.owners n ≡ first_label entries.now owners.now n) }
         ensures serials { IfOk result (λ l. (n : List ℕ) → label_number l.names l.serials n ≡ first_label entries.now (map (λ e. e.serial) entries.now) n) }
         ensures names { IfOk result (λ l. (n : List ℕ) → has n l.names ≡ has n (label_names (placed entries.now))) }
     {
         let mut labels = Labels::new(alloc);
         for i in 0..entries.len() {
-            labels.note(alloc, &entries[i], owners[i])?;
+            labels.note_by_class(alloc, classes[i], &entries[i], owners[i])?;
         }
         Ok(labels)
     }
