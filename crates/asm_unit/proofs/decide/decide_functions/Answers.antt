@@ -15,8 +15,8 @@ use Rattle.asm_unit.proofs.TargetLaws.{names_from, defined_is, targets_are}
 use Rattle.asm_unit.proofs.BuildLaws.{owners_even, decided_are, tables_are, fits_from}
 use Rattle.asm_unit.proofs.decide.decide_functions.Goals as goal
 
-pub of-requires : goal.of-requires
-of-requires c = ap length c.deref-2.ensures.value ∙ ap length c.in_ok-layout.ensures.owners ∙ owners_even c.args.entries.now
+pub of-requires-clause-owners : goal.of-requires-clause-owners
+of-requires-clause-owners c = ap length c.deref-2.ensures.value ∙ ap length c.in_ok-layout.ensures.owners ∙ owners_even c.args.entries.now
 
 pub decided_functions-requires-clause-home : goal.decided_functions-requires-clause-home
 decided_functions-requires-clause-home c =
