@@ -141,12 +141,19 @@ fn owners_in(alloc: Global, entries: &[Entry]) -> Result<Vec<usize>, AllocError>
 }
 
 // The numbers of the functions whose tables the tables are, and none where a label stands twice.
+fn numbers_of(alloc: Global, entries: &[Entry]) -> Result<Vec<usize>, AllocError>
+    requires { AreNumbered 0 entries.now }
+{
+    let classes = classes_of(alloc, entries)?;
+    match file_cause(alloc, None, entries, &classes)? {
+        Some(_cause) => Ok(Vec::new(alloc)),
+        None => owners_in(alloc, entries),
+    }
+}
+
 fn numbers_in(alloc: Global, lines: &[Line]) -> Result<Vec<usize>, AllocError> {
     let entries = entries_of(alloc, lines)?;
-    match file_cause(alloc, None, &entries, &classes_of(alloc, &entries)?)? {
-        Some(_cause) => Ok(Vec::new(alloc)),
-        None => owners_in(alloc, &entries),
-    }
+    numbers_of(alloc, &entries)
 }
 
 #[test]

@@ -12,3 +12,4 @@ pub mod OutputLaws
 pub mod NoteLaws
 pub mod ToldLaws
 pub mod PreparedLaws
+pub mod LineLaws

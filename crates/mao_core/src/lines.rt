@@ -1,6 +1,6 @@
 // The lines of pieces.
 ghost use Rattle.std.specs.Prelude.{◌≡◌, ◌+◌, ◌-◌, ◌^◌, ◌<◌, ◌≤◌, ◌==◌, length, count_by, IfOk};
-ghost use Rattle.att_lexer.specs.Pieces.{pieces, spans_of};
+ghost use Rattle.att_lexer.specs.Pieces.{NoneEarlier, pieces, spans_of};
 ghost use Rattle.asm_writer.specs.Unit.{bytes_at};
 ghost use Rattle.mao_core.specs.Kept.{LieWithin};
 ghost use Rattle.mao_core.specs.Notes.{lines_from};
@@ -8,15 +8,21 @@ ghost use Rattle.mao_core.specs.Notes.{lines_from};
 use att_lexer::Span;
 use std::alloc::{AllocError, Global};
 
-fn newlines_in(piece: &[u8]) -> usize
+// A newline ends a piece, so a piece has one at its end or none.
+fn newlines_in(piece: &[u8]) -> u32
+    requires { NoneEarlier piece.now }
     ensures value { result ≡ count_by (λ b. b == 10) piece.now }
     ensures few { result ≤ length piece.now }
 {
-    piece.iter().filter(|b| **b == b'\n').count()
+    let Some(last) = piece.last() else {
+        return 0;
+    };
+    if *last == b'\n' { 1 } else { 0 }
 }
 
-fn newlines_at(text: &[u8], span: Span) -> usize
-    requires { span.start + span.len ≤ length text.now }
+fn newlines_at(text: &[u8], span: Span) -> u32
+    requires within { span.start + span.len ≤ length text.now }
+    requires piece { NoneEarlier (bytes_at text.now span) }
     ensures value { result ≡ count_by (λ b. b == 10) (bytes_at text.now span) }
     ensures few { result ≤ span.len }
 {
@@ -35,7 +41,7 @@ pub fn lines_of_pieces(alloc: Global, text: &[u8], spans: &[Span]) -> Result<Vec
     let mut line: u32 = 1;
     for span in spans {
         lines.push(line)?;
-        line += newlines_at(text, *span) as u32;
+        line += newlines_at(text, *span);
     }
     Ok(lines)
 }
