@@ -103,6 +103,20 @@ fn entries_of(alloc: Global, lines: &[Line]) -> Result<Vec<Entry>, AllocError>
     Ok(entries)
 }
 
+// Whether a name stands for no function of a file.
+fn leads_on(alloc: Global, entries: &[Entry], name: &str) -> Result<bool, AllocError>
+    requires { AreNumbered 0 entries.now }
+{
+    let classes = classes_of(alloc, entries)?;
+    let layout = lay_out(alloc, entries, &classes)?;
+    let owners = layout.owners.as_slice();
+    let names = function_names(alloc, entries, layout.bounds.as_slice())?;
+    let labels = Labels::of(alloc, entries, &classes, owners)?;
+    let aliases = Aliases::of_entries(alloc, entries, &classes)?;
+    let leading = LeadingNames::of(alloc, entries, &classes, &names, &labels, &aliases)?;
+    Ok(leading.has(name.as_bytes()))
+}
+
 #[test]
 fn finds_what_stands_for_no_function(rt: HostRuntime) -> Result<(), Fail> {
     use Line::*;
@@ -164,13 +178,7 @@ fn finds_what_stands_for_no_function(rt: HostRuntime) -> Result<(), Fail> {
     for (lines, name, leads) in cases {
         assert!(rt; lines.len() < 100);
         let entries = entries_of(alloc, lines)?;
-        let classes = classes_of(alloc, &entries)?;
-        let layout = lay_out(alloc, &entries, &classes)?;
-        let names = function_names(alloc, &entries, &layout.bounds)?;
-        let labels = Labels::of(alloc, &entries, &classes, &layout.owners)?;
-        let aliases = Aliases::of_entries(alloc, &entries, &classes)?;
-        let leading = LeadingNames::of(alloc, &entries, &classes, &names, &labels, &aliases)?;
-        assert_eq!(rt; leading.has(name.as_bytes()), leads, "{name}");
+        assert_eq!(rt; leads_on(alloc, &entries, name)?, leads, "{name}");
     }
     Ok(())
 }
