@@ -1,6 +1,8 @@
 -- Lists of names: places, and one more name.
-use Rattle.std.proofs.Common.{◌≡◌, ℕ, suc, ◌+◌, ◌<◌, Bool, true, false, not, cond, List, [], ◌∷◌, ◌++◌, map, length, Option, Some, None, refl, sym, ap, ◌∙◌, arith, ltb}
-use Rattle.std.specs.Prelude.{bytes_eq, option_map, is_some, IfSome, ◌||◌}
+use Rattle.std.proofs.Common.{◌≡◌, ℕ, suc, ◌+◌, ◌<◌, Bool, true, false, not, cond, List, [], ◌∷◌, ◌++◌, map, length, Option, Some, None, zero, subst, refl, sym, ap, ◌∙◌, arith, ltb}
+use Rattle.std.specs.Prelude.{bytes_eq, option_map, is_some, IfSome, ◌||◌, slice_get}
+use Rattle.std.specs.Bool.{OnTrue}
+use Rattle.std.proofs.lemmas.Option.{slice_get-map}
 use Rattle.std.specs.List.{list_any, position, position_or_len}
 use Rattle.std.proofs.lemmas.Bool.{lt-ltb, ltb-true, ltb-false, le-ltb, or_from, or_parts, cond-false, false_from_ne_true, both_ways}
 use Rattle.std.proofs.lemmas.Slice.Eq.{bytes_eq-Decides}
@@ -110,6 +112,26 @@ module _ {X : Type 0} (name : X → List ℕ) where
       by_test true q = ap (λ b. cond b (map name xs) (map name xs ++ n ∷ [])) q
       by_test false q = map-append name xs (v ∷ []) ∙ ap (λ m. map name xs ++ m ∷ []) e ∙ ap (λ b. cond b (map name xs) (map name xs ++ n ∷ [])) q
 
+  -- its place after it has come
+  pub place_with : (xs : List X) (v : X) (n : List ℕ) (k : ℕ) → name v ≡ n → k ≡ position_or_len (λ y. bytes_eq (name v) (name y)) xs → place_of n (with_name (map name xs) n) ≡ Some k
+  place_with xs v n k e g = by_test (has n (map name xs)) refl
+    where
+      place : ℕ
+      place = position_or_len (λ y. bytes_eq n (name y)) xs
+
+      here : k ≡ place
+      here = g ∙ ap (λ m. position_or_len (λ y. bytes_eq m (name y)) xs) e
+
+      within : (b : Bool) → ltb place (length xs) ≡ b → has n (map name xs) ≡ true → place_of n (map name xs) ≡ Some k
+      within true f there = sym (position_is name n xs) ∙ ap (λ t. cond t (Some place) None) f ∙ ap Some (sym here)
+      within false f there =
+          let gone : place_of n (map name xs) ≡ None = sym (position_is name n xs) ∙ ap (λ t. cond t (Some place) None) f in
+          absurd (both_ways (has n (map name xs)) (none_there n (map name xs) gone) there)
+
+      by_test : (b : Bool) → has n (map name xs) ≡ b → place_of n (cond b (map name xs) (map name xs ++ n ∷ [])) ≡ Some k
+      by_test true there = within (ltb place (length xs)) refl there
+      by_test false none = place_new xs v n k e none g
+
 pub distinct_with : (n : List ℕ) (ns : List (List ℕ)) → AreDistinct ns → AreDistinct (with_name ns n)
 distinct_with n ns d = by_test (has n ns) refl
   where
@@ -123,3 +145,22 @@ new_comes n ns e = ap (λ b. cond b ns (ns ++ n ∷ [])) (sym e)
 pub place_found : (n : List ℕ) (ns : List (List ℕ)) (o : Option ℕ) → o ≡ place_of n ns → IfSome o (λ k. k < length ns)
 place_found n ns None e = tt
 place_found n ns (Some k) e = place_within n ns k (sym e)
+
+-- where names are distinct, the one at a place is found there
+pub place_at : (ns : List (List ℕ)) (k : ℕ) (m : List ℕ) → AreDistinct ns → slice_get ns k ≡ Some m → place_of m ns ≡ Some k
+place_at [] k m d e = absurd (no e)
+  where
+    no : None ≡ Some m → ⊥
+    no q = cc
+place_at (n ∷ ns) zero m d e = let same : n ≡ m = cc in ap (λ b. cond b (Some 0) (option_map suc (place_of m ns))) ((bytes_eq-Decides m n).1 (sym same))
+place_at (n ∷ ns) (suc k) m d e =
+    let found : place_of m ns ≡ Some k = place_at ns k m d.1 e in
+    ap (λ b. cond b (Some 0) (option_map suc (place_of m ns))) (differs (sym (some_place m ns) ∙ ap is_some found)) ∙ ap (option_map suc) found
+  where
+    differs : has m ns ≡ true → bytes_eq m n ≡ false
+    differs there = false_from_ne_true (bytes_eq m n) (λ f. both_ways (has n ns) d.0 (subst (λ x. has x ns ≡ true) ((bytes_eq-Decides m n).0 f) there))
+
+pub place_at_key : {X : Type 0} (name : X → List ℕ) (xs : List X) (k : ℕ) (o : Option X) (x : X) (n : List ℕ) (b : Bool) → AreDistinct (map name xs) → o ≡ slice_get xs k → o ≡ Some x → b ≡ bytes_eq (name x) n → OnTrue b (place_of n (map name xs) ≡ Some k)
+place_at_key name xs k o x n false d e t f = tt
+place_at_key name xs k o x n true d e t f =
+    place_at (map name xs) k n d (slice_get-map name xs k ∙ ap (option_map name) (sym e ∙ t) ∙ ap Some ((bytes_eq-Decides (name x) n).0 (sym f)))

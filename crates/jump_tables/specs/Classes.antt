@@ -1,5 +1,5 @@
 -- The classes of entries.
-use Rattle.std.specs.Prelude.{ℕ, Bool, not, ◌||◌, List, map, length, nat_eq, if◌then◌else◌}
+use Rattle.std.specs.Prelude.{Bool, not, ◌||◌, List, map, length, nat_eq, if◌then◌else◌}
 use Rattle.insn_ir.specs.declared.insn.Arg.{Arg}
 use Rattle.insn_ir.specs.declared.insn.Insn.{Insn}
 use Rattle.insn_ir.specs.declared.entry.DirectiveKind.{DirectiveKind}

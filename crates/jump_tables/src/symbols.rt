@@ -1,6 +1,7 @@
 // Symbols by number, in the order in which they come.
 
 ghost use Rattle.std.specs.Prelude.{◌≡◌, not, [], OnOk, OnErr, IfOk, Some, length, ◌<◌, IfSome};
+ghost use Rattle.std.specs.Bool.{OnTrue};
 ghost use Rattle.jump_tables.specs.Names.{has, with_name, place_of, AreDistinct};
 
 use indexmap::IndexSet;
@@ -47,7 +48,35 @@ impl Symbols {
         ensures within { IfSome result (λ k. k < length self.now) }
         ensures distinct { AreDistinct self.now }
     {
+        if self.set.is_empty() {
+            return None;
+        }
         self.set.get_index_of(name)
+    }
+
+    // Whether this is the symbol of the number.
+    fn is_at(&self, number: usize, name: &[u8]) -> bool
+        ensures at { OnTrue result (place_of name.now self.now ≡ Some number) }
+        ensures within { OnTrue result (number < length self.now) }
+    {
+        match self.set.get_index(number) {
+            Some(symbol) => symbol.as_slice() == name,
+            None => false,
+        }
+    }
+
+    /// The number of the symbol, if it is among them, as [`Symbols::number_of`] gives it. The numbers next to `near` are looked
+    /// at first, so a walk that asks for symbols about in the order in which they came needs few hashes.
+    pub fn number_near(&self, name: &[u8], near: usize) -> Option<usize>
+        ensures found { result ≡ place_of name.now self.now }
+        ensures within { IfSome result (λ k. k < length self.now) }
+    {
+        for number in [near, near.saturating_sub(1), near.saturating_add(1)] {
+            if self.is_at(number, name) {
+                return Some(number);
+            }
+        }
+        self.number_of(name)
     }
 
     /// Whether the symbol is among them.
@@ -57,15 +86,20 @@ impl Symbols {
         self.number_of(name).is_some()
     }
 
+    /// Whether the symbol is among them, where the last one is looked at first.
+    pub fn has_late(&self, name: &[u8]) -> bool
+        ensures { result ≡ has name.now self.now }
+    {
+        self.number_near(name, self.len().saturating_sub(1))
+            .is_some()
+    }
+
     /// The number of the symbol, which comes last where it is new. Where memory is wanting nothing changes.
     pub fn add(&mut self, alloc: Global, name: &[u8]) -> Result<usize, AllocError>
         ensures added { OnOk result (self.new ≡ with_name self.old name.now) }
         ensures number { IfOk result (λ k. place_of name.now self.new ≡ Some k) }
         ensures err { OnErr result (self.new ≡ self.old) }
     {
-        if let Some(number) = self.number_of(name) {
-            return Ok(number);
-        }
         let (number, _) = self.set.insert_full(Vec::from_slice(alloc, name)?)?;
         Ok(number)
     }

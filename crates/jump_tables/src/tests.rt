@@ -341,3 +341,21 @@ fn finds_tables(rt: HostRuntime) -> Result<(), Fail> {
     }
     Ok(())
 }
+
+#[test]
+fn finds_symbols_near_any_number(rt: HostRuntime) -> Result<(), Fail> {
+    let alloc = rt.alloc();
+    let mut symbols = Symbols::new(alloc);
+    for name in ["f", "g", "h", "g"] {
+        symbols.add(alloc, name.as_bytes())?;
+    }
+    for near in [0, 1, 2, 9, usize::MAX] {
+        assert_eq!(rt; symbols.number_near(b"f", near), Some(0));
+        assert_eq!(rt; symbols.number_near(b"h", near), Some(2));
+        assert_eq!(rt; symbols.number_near(b"i", near), None);
+    }
+    assert!(rt; symbols.has_late(b"h"));
+    assert!(rt; symbols.has_late(b"f"));
+    assert!(rt; !symbols.has_late(b"i"));
+    Ok(())
+}
