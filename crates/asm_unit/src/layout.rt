@@ -59,7 +59,7 @@ fn is_ended(sizes: &Symbols, class: EntryClass, kind: &EntryKind) -> bool
         return false;
     }
     match label_name(kind) {
-        Some(name) => sizes.has(name.as_slice()),
+        Some(name) => sizes.has_late(name.as_slice()),
         None => false,
     }
 }
@@ -260,8 +260,11 @@ impl<'a> Walk<'a> {
     ) -> Option<Opened<'a>>
         ensures { option_map open_ref result ≡ opening self.now ended (section_of_ref section.entry) (label_name kind.now) }
     {
+        if !ended {
+            return None;
+        }
         let name = label_name(kind)?;
-        if section.code && ended && self.typed.has(name.as_slice()) {
+        if section.code && self.typed.has_late(name.as_slice()) {
             Some(Opened {
                 name: name.as_slice(),
                 section: section.name,

@@ -100,8 +100,7 @@ impl Reached {
     ) -> Result<(), AllocError>
         ensures { OnOk result (searching self.new (map (λ n. n.now) queue.new.items) ≡ visited serial (searching self.old (map (λ n. n.now) queue.old.items)) name.now) }
     {
-        if !self.names.has(name) {
-            self.names.add_new(alloc, name)?;
+        if self.names.add_new(alloc, name)? {
             self.firsts.push(serial)?;
             queue.push(name)?;
         }

@@ -145,7 +145,7 @@ fn numbers_of(alloc: Global, entries: &[Entry]) -> Result<Vec<usize>, AllocError
     requires { AreNumbered 0 entries.now }
 {
     let classes = classes_of(alloc, entries)?;
-    match file_cause(alloc, None, entries, &classes)? {
+    match file_cause(alloc, None, entries, &classes)?.cause {
         Some(_cause) => Ok(Vec::new(alloc)),
         None => owners_in(alloc, entries),
     }

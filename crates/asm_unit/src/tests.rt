@@ -211,8 +211,8 @@ fn finds_what_freezes_a_file(rt: HostRuntime) -> Result<(), Fail> {
     for (lines, frozen, serial) in files {
         let entries = entries_of(rt.alloc(), lines)?;
         let classes = classes_of(rt.alloc(), &entries)?;
-        let cause = file_cause(rt.alloc(), frozen, &entries, &classes)?;
-        assert_eq!(rt; cause.map(|c| c.serial), serial);
+        let whole = file_cause(rt.alloc(), frozen, &entries, &classes)?;
+        assert_eq!(rt; whole.cause.map(|c| c.serial), serial);
     }
     Ok(())
 }

@@ -1,12 +1,12 @@
 // The labels of a file, and the functions that they stand in.
 
-ghost use Rattle.std.specs.Prelude.{◌≡◌, ◌<◌, ◌||◌, length, map, List, ℕ, IfOk, OnOk};
+ghost use Rattle.std.specs.Prelude.{◌≡◌, ◌<◌, ◌||◌, ◌++◌, length, map, List, ℕ, IfOk, OnOk};
 ghost use Rattle.jump_tables.specs.Classes.{class_of, classes_of};
 ghost use Rattle.jump_tables.specs.Names.{has};
 ghost use Rattle.jump_tables.specs.Sections.{placed};
 ghost use Rattle.jump_tables.specs.Tables.{label_name};
 ghost use Rattle.asm_unit.specs.Functions.{label_names};
-ghost use Rattle.asm_unit.specs.LabelOwners.{label_number, no_labels, noted_label, first_label, IsPlaceOf, target_within};
+ghost use Rattle.asm_unit.specs.LabelOwners.{label_number, no_labels, noted_label, beside_label, first_label, IsPlaceOf, target_within};
 
 use insn_ir::{Entry, EntryKind};
 use jump_tables::{EntryClass, Symbols};
@@ -59,6 +59,19 @@ impl Labels {
         }
     }
 
+    // The same, where the names next to the one at `near` are looked at first.
+    fn place_near(&self, name: &[u8], near: usize) -> Option<LabelPlace>
+        ensures { IsPlaceOf self.now name.now result }
+    {
+        let place = self.names.number_near(name, near)?;
+        let places = self.places.as_slice();
+        if place < places.len() {
+            Some(places[place])
+        } else {
+            None
+        }
+    }
+
     /// Whether there is a label of this name.
     pub fn has(&self, name: &[u8]) -> bool
         ensures { result ≡ has name.now self.now.names }
@@ -71,6 +84,16 @@ impl Labels {
         ensures { result ≡ label_number self.now.names self.now.owners name.now }
     {
         match self.place_of(name) {
+            Some(place) => place.owner,
+            None => 0,
+        }
+    }
+
+    /// The same, where labels next to the one of the number `near`, from 0, are looked at first.
+    pub fn number_near(&self, name: &[u8], near: usize) -> usize
+        ensures { result ≡ label_number self.now.names self.now.owners name.now }
+    {
+        match self.place_near(name, near) {
             Some(place) => place.owner,
             None => 0,
         }
@@ -135,5 +158,48 @@ impl Labels {
             labels.note_by_class(alloc, classes[i], &entries[i], owners[i])?;
         }
         Ok(labels)
+    }
+
+    // Where a label stands, behind the places of those before it.
+    fn push_place(
+        places: &mut Vec<LabelPlace>,
+        class: EntryClass,
+        entry: &Entry,
+        owner: usize,
+    ) -> Result<(), AllocError>
+        requires { class ≡ class_of entry.now.kind }
+        ensures owners { OnOk result (map (λ p. p.owner) places.new.items ≡ map (λ p. p.owner) places.old.items ++ beside_label (label_name entry.now.kind) owner) }
+        ensures serials { OnOk result (map (λ p. p.serial) places.new.items ≡ map (λ p. p.serial) places.old.items ++ beside_label (label_name entry.now.kind) entry.now.serial) }
+    {
+        match class {
+            EntryClass::Label => places.push(LabelPlace {
+                owner,
+                serial: entry.serial,
+            })?,
+            _ => {}
+        }
+        Ok(())
+    }
+
+    /// The labels of these entries, as [`Labels::of`] gives them, where `names` are their names in order.
+    pub fn of_names(
+        alloc: Global,
+        names: Symbols,
+        entries: &[Entry],
+        classes: &[EntryClass],
+        owners: &[usize],
+    ) -> Result<Labels, AllocError>
+        requires names { names ≡ label_names (placed entries.now) }
+        requires classes { classes.now ≡ classes_of entries.now }
+        requires owners { length owners.now ≡ length entries.now }
+        ensures owners { IfOk result (λ l. (n : List ℕ) → label_number l.names l.owners n ≡ first_label entries.now owners.now n) }
+        ensures serials { IfOk result (λ l. (n : List ℕ) → label_number l.names l.serials n ≡ first_label entries.now (map (λ e. e.serial) entries.now) n) }
+        ensures names { IfOk result (λ l. (n : List ℕ) → has n l.names ≡ has n (label_names (placed entries.now))) }
+    {
+        let mut places = Vec::with_capacity(alloc, names.len())?;
+        for i in 0..entries.len() {
+            Labels::push_place(&mut places, classes[i], &entries[i], owners[i])?;
+        }
+        Ok(Labels { names, places })
     }
 }

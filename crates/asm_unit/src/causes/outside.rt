@@ -54,6 +54,14 @@ fn debug_from(debug: bool, class: EntryClass, kind: &EntryKind) -> bool
     }
 }
 
+// How many labels have been passed: names are mostly those of labels near by.
+fn labels_passed(before: usize, class: EntryClass) -> usize {
+    match class {
+        EntryClass::Label => before.saturating_add(1),
+        _ => before,
+    }
+}
+
 fn may_name(class: EntryClass) -> bool
     ensures { result ≡ may_name class }
 {
@@ -72,11 +80,11 @@ fn may_name(class: EntryClass) -> bool
 
 impl LabelsOfFile<'_> {
     // The function that has a name as a local label, where the entry is neither of its code nor a row of its tables.
-    fn used(&self, owner: usize, row: usize, name: &Name) -> Option<usize>
+    fn used(&self, near: usize, owner: usize, row: usize, name: &Name) -> Option<usize>
         ensures place { (j : ℕ) → j < length self.now.names.now → is_place result j ≡ is_used self.now owner row name.now j }
         ensures within { IfSome result (λ k. k < length self.now.names.now) }
     {
-        let number = self.labels.number(name.as_slice());
+        let number = self.labels.number_near(name.as_slice(), near);
         if number == 0 || number == owner || number == row || self.names.len() < number {
             return None;
         }
@@ -91,6 +99,7 @@ impl LabelsOfFile<'_> {
     fn note_names(
         &self,
         firsts: &mut [Option<u32>],
+        near: usize,
         owner: usize,
         row: usize,
         serial: u32,
@@ -100,7 +109,7 @@ impl LabelsOfFile<'_> {
         ensures { NotedBy (λ j. list_any (λ n. is_used self.now owner row n j) (map (λ n. n.now) named.now)) serial firsts.old firsts.new }
     {
         for name in named {
-            note_first(firsts, self.used(owner, row, name), serial);
+            note_first(firsts, self.used(near, owner, row, name), serial);
         }
     }
 
@@ -110,6 +119,7 @@ impl LabelsOfFile<'_> {
         alloc: Global,
         firsts: &mut [Option<u32>],
         debug: bool,
+        near: usize,
         owner: usize,
         row: usize,
         class: EntryClass,
@@ -121,7 +131,7 @@ impl LabelsOfFile<'_> {
     {
         if !debug && may_name(class) {
             let named = names_of(alloc, &entry.kind)?;
-            self.note_names(firsts, owner, row, entry.serial, &named);
+            self.note_names(firsts, near, owner, row, entry.serial, &named);
         }
         Ok(())
     }
@@ -145,11 +155,22 @@ impl LabelsOfFile<'_> {
     {
         let mut firsts = none_yet(alloc, self.names.len())?;
         let mut debug = false;
+        let mut passed = 0;
         for i in 0..entries.len() {
             let entry = &entries[i];
             let class = classes[i];
             debug = debug_from(debug, class, &entry.kind);
-            self.note_entry(alloc, &mut firsts, debug, owners[i], rows[i], class, entry)?;
+            passed = labels_passed(passed, class);
+            self.note_entry(
+                alloc,
+                &mut firsts,
+                debug,
+                passed,
+                owners[i],
+                rows[i],
+                class,
+                entry,
+            )?;
         }
         Ok(firsts)
     }
