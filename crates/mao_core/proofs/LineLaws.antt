@@ -1,5 +1,5 @@
 -- Newlines of pieces: a piece has one at its end, or none.
-use Rattle.std.proofs.Common.{◌≡◌, ◌≢◌, ℕ, zero, suc, ◌+◌, ◌-◌, ◌<◌, ◌==◌, Bool, false, cond, List, [], ◌∷◌, ◌++◌, map, length, take, Option, Some, None, inl, refl, sym, ap, ◌∙◌, subst, arith, append_assoc, length-append, zero-add}
+use Rattle.std.proofs.Common.{◌≡◌, ℕ, zero, suc, ◌+◌, ◌-◌, ◌<◌, ◌==◌, cond, List, [], ◌∷◌, ◌++◌, map, length, take, Some, None, inl, refl, sym, ap, ◌∙◌, subst, arith, append_assoc, length-append, zero-add}
 use Rattle.std.specs.Prelude.{slice_get, count_by, slice_index_or}
 use Rattle.std.specs.List.{fold, AllByRecursion}
 use Rattle.std.proofs.lemmas.Bool.{ne_eqb}

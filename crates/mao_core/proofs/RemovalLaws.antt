@@ -1,61 +1,44 @@
 -- Nops of clear functions, found and dropped one by one.
-use Rattle.std.proofs.Common.{◌≡◌, ℕ, suc, ◌+◌, ◌<◌, ◌≤◌, Bool, true, false, not, cond, List, [], ◌∷◌, ◌++◌, map, filter, length, drop, get_or, Option, Some, None, refl, ap, sym, subst, ◌∙◌, arith, append_assoc}
+use Rattle.std.proofs.Common.{◌≡◌, ℕ, suc, ◌+◌, ◌<◌, ◌≤◌, Bool, true, false, not, cond, List, [], ◌∷◌, map, filter, length, drop, get_or, Option, Some, None, refl, ap, sym, subst, ◌∙◌, arith}
 use Rattle.std.specs.Prelude.{◌&&◌, ◌||◌, find}
 use Rattle.std.specs.List.{AllByRecursion}
 use Rattle.std.proofs.lemmas.Bool.{and_parts, ne_eqb, eqb-true}
 use Rattle.std.proofs.lemmas.List.{drop_more}
-use Rattle.insn_ir.specs.declared.entry.EntryKind.{EntryKind}
 use Rattle.insn_ir.specs.declared.entry.Entry.{Entry}
 use Rattle.insn_ir.specs.Entries.{is_nop_entry}
 use Rattle.asm_unit.specs.Held.{Held, AreNumbered, entries_of, serial_is, entry_of, held_entry, held_without}
 use Rattle.asm_unit.specs.declared.cause.FreezeCause.{FreezeCause}
 use Rattle.asm_unit.specs.Decisions.{Decision}
 use Rattle.asm_unit.specs.Unit.{Unit}
-use Rattle.mao_core.specs.Entries.{Ascend}
+use Rattle.mao_core.specs.Entries.{Ascend, nop_serials}
 use Rattle.mao_core.specs.Kept.{is_among}
 use Rattle.mao_core.specs.Removed.{goes, clear_nops}
 use Rattle.mao_core.specs.Removal.{is_clear_at, nop_goes, goes_at, without_all, MayAllGo}
-use Rattle.mao_core.proofs.NumberedLaws.{serial_at, entry_at, all_found}
+use Rattle.mao_core.proofs.NumberedLaws.{all_found}
 
 abbrev serials_of : (Entry → Bool) → List Entry → List ℕ
 serials_of test es = map (λ e. e.serial) (filter test es)
 
-abbrev nothing : Entry
-nothing = record { serial = 0; kind = EntryKind.Blank }
-
--- the nops of what is left
-abbrev pub nops_from : Unit → ℕ → List ℕ
-nops_from u i = serials_of (goes u.decided (entries_of u.held)) (drop i (entries_of u.held))
-
--- the entry at hand decides
-goes_here : (u : Unit) (i : ℕ) → AreNumbered 0 (entries_of u.held) → i < length (entries_of u.held) → goes u.decided (entries_of u.held) (get_or (entries_of u.held) i nothing) ≡ goes_at u (i + 1)
-goes_here u i h lt =
-    ap (λ s. is_nop_entry (get_or (entries_of u.held) i nothing).kind && is_clear_at u s) (omega (arith, serial_at 0 i (entries_of u.held) nothing h lt))
-    ∙ ap (nop_goes u (i + 1)) (sym (entry_at 0 i (i + 1) u.held nothing h lt (omega arith)))
-
-nops_more : (u : Unit) (i : ℕ) (b : Bool) → AreNumbered 0 (entries_of u.held) → i < length (entries_of u.held) → goes_at u (i + 1) ≡ b → nops_from u i ≡ cond b ((i + 1) ∷ nops_from u (i + 1)) (nops_from u (i + 1))
-nops_more u i b h lt e =
-    ap (serials_of (goes u.decided (entries_of u.held))) (drop_more (entries_of u.held) i nothing lt)
-    ∙ by_test b (goes u.decided (entries_of u.held) (get_or (entries_of u.held) i nothing)) (goes_here u i h lt ∙ e)
+-- of the nops those that go
+nops_among : (u : Unit) (es : List Entry) → AllByRecursion (λ e. entry_of u.held e.serial ≡ Some e) es → serials_of (goes u.decided (entries_of u.held)) es ≡ filter (goes_at u) (nop_serials es)
+nops_among u [] f = refl
+nops_among u (e ∷ es) f = by_kind (is_nop_entry e.kind) (ap (nop_goes u e.serial) f.0) (nops_among u es f.1)
   where
-    by_test : (b c : Bool) → c ≡ b → map (λ e. e.serial) (cond c (get_or (entries_of u.held) i nothing ∷ filter (goes u.decided (entries_of u.held)) (drop (i + 1) (entries_of u.held))) (filter (goes u.decided (entries_of u.held)) (drop (i + 1) (entries_of u.held))))
-        ≡ cond b ((i + 1) ∷ nops_from u (i + 1)) (nops_from u (i + 1))
-    by_test true true e = ap (λ s. s ∷ nops_from u (i + 1)) (omega (arith, serial_at 0 i (entries_of u.held) nothing h lt))
-    by_test false false e = refl
-    by_test true false e = absurd (no e)
-      where
-        no : false ≡ true → ⊥
-        no q = cc
-    by_test false true e = absurd (no e)
-      where
-        no : true ≡ false → ⊥
-        no q = cc
+    by_clear : (c d : Bool) → d ≡ c → map (λ e. e.serial) (filter (goes u.decided (entries_of u.held)) es) ≡ filter (goes_at u) (nop_serials es)
+        → map (λ e. e.serial) (cond c (e ∷ filter (goes u.decided (entries_of u.held)) es) (filter (goes u.decided (entries_of u.held)) es)) ≡ cond d (e.serial ∷ filter (goes_at u) (nop_serials es)) (filter (goes_at u) (nop_serials es))
+    by_clear true true g rest = ap (λ l. e.serial ∷ l) rest
+    by_clear false false g rest = rest
+    by_clear true false g rest = let no : ⊥ = cc in absurd no
+    by_clear false true g rest = let no : ⊥ = cc in absurd no
 
-pub nop_taken : (u : Unit) (i : ℕ) (done all : List ℕ) → AreNumbered 0 (entries_of u.held) → i < length (entries_of u.held) → goes_at u (i + 1) ≡ true → done ++ nops_from u i ≡ all → (done ++ (i + 1) ∷ []) ++ nops_from u (i + 1) ≡ all
-nop_taken u i done all h lt g e = append_assoc done ((i + 1) ∷ []) (nops_from u (i + 1)) ∙ ap (λ l. done ++ l) (sym (nops_more u i true h lt g)) ∙ e
+    by_kind : (b : Bool) → goes_at u e.serial ≡ b && is_clear_at u e.serial → map (λ e. e.serial) (filter (goes u.decided (entries_of u.held)) es) ≡ filter (goes_at u) (nop_serials es)
+        → map (λ e. e.serial) (cond (b && is_clear_at u e.serial) (e ∷ filter (goes u.decided (entries_of u.held)) es) (filter (goes u.decided (entries_of u.held)) es))
+        ≡ filter (goes_at u) (map (λ e. e.serial) (cond b (e ∷ filter (λ e. is_nop_entry e.kind) es) (filter (λ e. is_nop_entry e.kind) es)))
+    by_kind true g rest = by_clear (is_clear_at u e.serial) (goes_at u e.serial) g rest
+    by_kind false g rest = rest
 
-pub nop_left : (u : Unit) (i : ℕ) (done all : List ℕ) → AreNumbered 0 (entries_of u.held) → i < length (entries_of u.held) → goes_at u (i + 1) ≡ false → done ++ nops_from u i ≡ all → done ++ nops_from u (i + 1) ≡ all
-nop_left u i done all h lt g e = ap (λ l. done ++ l) (sym (nops_more u i false h lt g)) ∙ e
+pub nops_chosen : (u : Unit) (nops : List ℕ) → AreNumbered 0 (entries_of u.held) → nops ≡ nop_serials (entries_of u.held) → filter (goes_at u) nops ≡ clear_nops u.decided (entries_of u.held)
+nops_chosen u nops h e = ap (filter (goes_at u)) e ∙ sym (nops_among u (entries_of u.held) (all_found 0 u.held h))
 
 pub length_entries : (hs : List Held) → length (entries_of hs) ≡ length hs
 length_entries [] = refl

@@ -1,11 +1,12 @@
 // A text that was read, and all that is to be written of it.
 ghost use Rattle.std.specs.Prelude.{◌≡◌, ◌≤◌, length, IfOk, IfErr};
 ghost use Rattle.att_lexer.specs.Pieces.{pieces, spans_of, first_freeze};
+ghost use Rattle.mao_core.specs.Entries.{entries_of, nop_serials};
 ghost use Rattle.mao_core.specs.Input.{IsReadInPart};
 ghost use Rattle.mao_core.specs.Outcome.{IsJudged, Refuses};
 ghost use Rattle.mao_core.specs.Prepared.{IsUnitOf, IsPrepared};
 
-use crate::entries::read_entries;
+use crate::entries::{ReadEntries, read_entries};
 use crate::lines::lines_of_pieces;
 use crate::notes::notes_of_unit;
 use crate::reading::{InputFault, read_all};
@@ -27,15 +28,28 @@ pub struct Prepared {
     pub notes: Vec<u8>,
 }
 
+// The unit of a text, and the serials of its nops.
+#[derive(Drop)]
+struct UnitOfText {
+    unit: AsmUnit,
+    nops: SerialList,
+}
+
 // The unit of a text that was cut into these pieces.
-fn unit_of_text(alloc: Global, text: &[u8], cut: Pieces) -> Result<AsmUnit, AllocError>
+fn unit_of_text(alloc: Global, text: &[u8], cut: Pieces) -> Result<UnitOfText, AllocError>
     requires few { length (pieces text.now) ≤ 2000000 }
     requires cut { cut.spans ≡ spans_of 0 (pieces text.now) }
     requires freeze { cut.freeze ≡ first_freeze 1 (pieces text.now) }
-    ensures { IfOk result (IsUnitOf text.now) }
+    ensures unit { IfOk result (λ u. IsUnitOf text.now u.unit) }
+    ensures nops { IfOk result (λ u. u.nops ≡ nop_serials (entries_of text.now)) }
 {
-    let entries = read_entries(alloc, text, cut.spans.as_slice())?;
-    AsmUnit::build(alloc, cut, entries)
+    let ReadEntries {
+        entries,
+        classes,
+        nops,
+    } = read_entries(alloc, text, cut.spans.as_slice())?;
+    let unit = AsmUnit::build_by_class(alloc, cut, entries, &classes)?;
+    Ok(UnitOfText { unit, nops })
 }
 
 // The unit of a text without what is to go, and the notes.
@@ -48,8 +62,8 @@ fn prepare_text(alloc: Global, text: Vec<u8>, cut: Pieces) -> Result<Prepared, A
     ensures prepared { IfOk result IsPrepared }
 {
     let lines = lines_of_pieces(alloc, &text, cut.spans.as_slice())?;
-    let mut unit = unit_of_text(alloc, &text, cut)?;
-    let removed = remove_nops(alloc, &mut unit)?;
+    let UnitOfText { mut unit, nops } = unit_of_text(alloc, &text, cut)?;
+    let removed = remove_nops(alloc, &mut unit, nops.as_slice())?;
     let notes = notes_of_unit(alloc, &lines, &unit, removed.as_slice().len())?;
     Ok(Prepared {
         text,

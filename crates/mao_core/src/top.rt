@@ -13,6 +13,7 @@ use asm_writer::write_unit;
 use insn_ir::SerialList;
 use mao_outside::{Sink, Source, put_all};
 use std::alloc::Global;
+use std::mem;
 
 /// How a run ended.
 #[derive(Clone, Copy, Debug, PartialEq, Eq)]
@@ -79,6 +80,8 @@ fn deliver<O: Sink, N: Sink>(out: &mut O, notes: &mut N, prepared: Prepared) -> 
             Status::WriteFault
         }
     };
+    // The run ends here, and the system takes the unit's memory back at once: to drop it would look at each entry again.
+    mem::forget(prepared.unit);
     Report {
         status,
         removed: prepared.removed,

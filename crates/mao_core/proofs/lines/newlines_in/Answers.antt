@@ -1,4 +1,4 @@
-use Rattle.std.proofs.Common.{◌≡◌, ◌-◌, ◌==◌, Some, cond, length, sym, ap, ◌∙◌}
+use Rattle.std.proofs.Common.{◌≡◌, ◌-◌, Some, cond, length, sym, ap, ◌∙◌}
 use Rattle.std.specs.Prelude.{option_copied, slice_get}
 use Rattle.std.proofs.lemmas.Bool.{eq-eqb, ne_eqb}
 use Rattle.mao_core.proofs.LineLaws.{newlines_are}

@@ -12,12 +12,12 @@ pub read_entries-requires-clause-count : goal.read_entries-requires-clause-count
 read_entries-requires-clause-count c =
     omega (arith, ap length (c.as_slice.ensures ∙ c.requires.cut) ∙ length_spans 0 (pieces c.args.text.now), c.requires.few)
 
-pub build-requires-clause-as_many : goal.build-requires-clause-as_many
-build-requires-clause-as_many c = as_many c.args.text.now c.args.cut.spans c.in_ok-entries.entries.items c.requires.cut c.in_ok-entries.ensures
+pub build_by_class-requires-clause-as_many : goal.build_by_class-requires-clause-as_many
+build_by_class-requires-clause-as_many c = as_many c.args.text.now c.args.cut.spans c.in_ok-entries.field-0.entries.items c.requires.cut c.in_ok-entries.ensures.entries
 
-pub build-requires-clause-numbered : goal.build-requires-clause-numbered
-build-requires-clause-numbered c = are_numbered c.args.text.now c.in_ok-entries.entries.items c.in_ok-entries.ensures
+pub build_by_class-requires-clause-numbered : goal.build_by_class-requires-clause-numbered
+build_by_class-requires-clause-numbered c = are_numbered c.args.text.now c.in_ok-entries.field-0.entries.items c.in_ok-entries.ensures.entries
 
-pub build-requires-clause-few : goal.build-requires-clause-few
-build-requires-clause-few c =
-    omega (arith, ap length c.in_ok-entries.ensures ∙ length_of_entries c.args.text.now, c.requires.few)
+pub build_by_class-requires-clause-few : goal.build_by_class-requires-clause-few
+build_by_class-requires-clause-few c =
+    omega (arith, ap length c.in_ok-entries.ensures.entries ∙ length_of_entries c.args.text.now, c.requires.few)
