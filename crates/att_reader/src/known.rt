@@ -12,7 +12,7 @@ use std::hash::{FoldHasher, Hasher};
 const PLACES: usize = 4096;
 
 // Longer lines seldom come again.
-const LONGEST: usize = 64;
+const LONGEST: usize = 256;
 
 // A line, and what it is.
 #[derive(Drop)]
