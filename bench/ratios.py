@@ -83,6 +83,14 @@ def with_comments(size):
     return f"\t.text\n\t.p2align 4\n\t.type f, @function\nf:\n{body}\tret\n\t.size f, .-f\n"
 
 
+def with_long_names(size):
+    """One function of at most 200,000 entries, whose labels and jumps have long names."""
+    count = 95_000
+    fill = "_" + "x" * max(1, size // (2 * count) - 16)
+    lines = [f".L{i}{fill}:\n\tje .L{i * 7 % count}{fill}\n" for i in range(count)]
+    return f"\t.text\n\t.p2align 4\n\t.type f, @function\nf:\n{''.join(lines)}\tret\n\t.size f, .-f\n"
+
+
 def timed(command, path, runs=3):
     """The least seconds of some runs, or None where one fails."""
     best = None
@@ -124,6 +132,7 @@ def main():
         ("GCC's form, 32 MiB", large, large),
         (f"GCC's form, 32 MiB, {short.count('.size'):,} functions", short, short),
         ("GCC's form, 32 MiB, read and copied", "\t.macro m\n" + large, large),
+        ("long names, 31 MiB", with_long_names(31 * MIB), None),
         ("long comments, 31 MiB", with_comments(31 * MIB), None),
         ("2,000,000 newlines", "\n" * 2_000_000, None),
     ]
