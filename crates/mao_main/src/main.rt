@@ -60,5 +60,3 @@ fn main(rt: HostRuntime) -> ExitCode {
 
 #[cfg(test)]
 mod tests;
-#[cfg(test)]
-mod unit_tests;

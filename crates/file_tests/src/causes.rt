@@ -1,143 +1,16 @@
-// What the unit of a file says of texts. Serials are counted by hand: a label and its newline are two pieces.
+// Why functions and whole files are left alone.
 
-ghost use Rattle.std.specs.Prelude.{◌≡◌, ◌≤◌, length, IfOk};
-ghost use Rattle.asm_unit.specs.Held.{AreNumbered};
-
-use Wanted::{Clear, Frozen, Functions, NoFunction, WholeFile};
+use crate::cases::Wanted::{Clear, Frozen, Functions, WholeFile};
+use crate::cases::{AWAY, check_cases, check_functions};
+use crate::texts::{CLOSE, CLOSE_G, OPEN, THEN_G, joined, unit_of};
+use asm_unit::FreezeKind;
 use asm_unit::FreezeKind::{
     DataInCode, ExceptionTable, InlineAssembly, JumpElsewhere, LabelAsValue, LabelOutside, TooLong,
     UnknownLine,
 };
-use asm_unit::{AsmUnit, FreezeCause, FreezeKind};
-use att_lexer::{Span, cut_pieces};
-use att_reader::read_entry;
-use insn_ir::Entry;
 use std::alloc::AllocGlobal;
 use std::process::Abort;
 use std::test::Fail;
-
-// A function's name, whether it is home, and the rule that freezes it with the serial at which it holds.
-type Function<'a> = (&'a str, bool, Option<(FreezeKind, u32)>);
-
-// What the unit of a file is to say.
-#[derive(Clone, Copy)]
-enum Wanted<'a> {
-    // The entry of this serial freezes the file whole.
-    WholeFile(u32),
-    NoFunction,
-    // One function `f`, which is away and clear, or away and frozen.
-    Clear,
-    Frozen(FreezeKind, u32),
-    Functions(&'a [Function<'a>]),
-}
-
-// What a case shows, its text in parts, and what is wanted.
-type Case<'a> = (&'a str, &'a [&'a str], Wanted<'a>);
-
-const AWAY: bool = false;
-
-const HOME: bool = true;
-
-// The lines before the body of a function `f`: five pieces, so that the body begins at serial 6.
-const OPEN: &str = "\t.text\n\t.p2align 4\n\t.type f, @function\nf:\n";
-
-const CLOSE: &str = "\t.size f, .-f\n";
-
-// The lines between its body and that of a function `g`: four pieces.
-const THEN_G: &str = "\t.size f, .-f\n\t.type g, @function\ng:\n";
-
-const CLOSE_G: &str = "\t.size g, .-g\n";
-
-const PICK: &str =
-    "\t.file\t\"pick.c\"\n\t.text\n\t.p2align 4\n\t.globl\tpick\n\t.type\tpick, @function\npick:\n.LFB0:\n\t.cfi_startproc\n\tendbr64\n\tcmpl\t$2, %edi\n\tja\t.L5\n\tmovl\t%edi, %edi\n\tnotrack jmp\t*.L4(,%rdi,8)\n\t.section\t.rodata\n\t.align 8\n\t.align 4\n.L4:\n\t.quad\t.L7\n\t.quad\t.L6\n\t.quad\t.L3\n\t.text\n\t.p2align 4,,10\n\t.p2align 3\n.L7:\n\tleal\t1(%rsi), %eax\n\tret\n\t.p2align 4,,10\n\t.p2align 3\n.L6:\n\tmovl\t%esi, %eax\n\tsubl\t$7, %eax\n\ttestl\t%eax, %eax\n\tjs\t.L5\n\tret\n\t.p2align 4,,10\n\t.p2align 3\n.L3:\n\tleal\t(%rsi,%rsi,2), %eax\n\tret\n.L5:\n\txorl\t%eax, %eax\n\tret\n\t.cfi_endproc\n.LFE0:\n\t.size\tpick, .-pick\n\t.ident\t\"GCC: (GNU) 13.2.0\"\n\t.section\t.note.GNU-stack,\"\",@progbits\n";
-
-fn joined(rt: &(impl Abort + AllocGlobal), parts: &[&str]) -> Result<Vec<u8>, Fail> {
-    let mut text = Vec::new(rt.alloc());
-    for part in parts {
-        text.extend_from_slice(part.as_bytes())?;
-    }
-    Ok(text)
-}
-
-// The entries of these pieces of a text.
-fn entries_of(
-    rt: &(impl Abort + AllocGlobal),
-    text: &[u8],
-    spans: &[Span],
-) -> Result<Vec<Entry>, Fail>
-    requires { length spans.now ≤ 2000000 }
-    ensures numbered { IfOk result (λ es. AreNumbered 0 es.items) }
-    ensures many { IfOk result (λ es. length es.items ≡ length spans.now) }
-{
-    let mut entries = Vec::new(rt.alloc());
-    for (i, span) in spans.iter().enumerate() {
-        let start = span.start as usize;
-        let end = start + span.len as usize;
-        assert!(rt; end <= text.len());
-        let piece = &text[start..end];
-        assert!(rt; piece.len() < 4_294_967_296);
-        entries.push(read_entry(rt.alloc(), piece, i as u32 + 1)?)?;
-    }
-    Ok(entries)
-}
-
-fn unit_of(rt: &(impl Abort + AllocGlobal), text: &[u8]) -> Result<AsmUnit, Fail> {
-    assert!(rt; text.len() <= 33_554_432);
-    let pieces = cut_pieces(rt.alloc(), text)?;
-    let spans = pieces.spans.as_slice();
-    assert!(rt; spans.len() <= 2_000_000);
-    let entries = entries_of(rt, text, spans)?;
-    Ok(AsmUnit::build(rt.alloc(), pieces, entries)?)
-}
-
-fn cause_of((kind, serial): (FreezeKind, u32)) -> FreezeCause {
-    FreezeCause { kind, serial }
-}
-
-fn check_functions(
-    rt: &(impl Abort + AllocGlobal),
-    shows: &str,
-    unit: &AsmUnit,
-    wanted: &[Function],
-) {
-    assert_eq!(rt; unit.functions() as usize, wanted.len(), "{shows}");
-    for f in 0..unit.functions() {
-        let (name, home, cause) = wanted[f as usize];
-        assert_eq!(rt; unit.name(f), name.as_bytes(), "{shows}");
-        assert_eq!(rt; unit.is_home(f), home, "{shows}: {name}");
-        assert_eq!(rt; unit.frozen(f), cause.map(cause_of), "{shows}: {name}");
-    }
-}
-
-fn check_case(rt: &(impl Abort + AllocGlobal), case: &Case) -> Result<(), Fail> {
-    let (shows, parts, wanted) = *case;
-    let unit = unit_of(rt, &joined(rt, parts)?)?;
-    if let WholeFile(serial) = wanted {
-        let cause = cause_of((FreezeKind::File, serial));
-        assert_eq!(rt; unit.file_frozen(), Some(cause), "{shows}");
-    } else {
-        assert_eq!(rt; unit.file_frozen(), None, "{shows}");
-    }
-    match wanted {
-        WholeFile(_) | NoFunction => assert_eq!(rt; unit.functions(), 0, "{shows}"),
-        Clear => check_functions(rt, shows, &unit, &[("f", AWAY, None)]),
-        Frozen(kind, serial) => check_functions(
-            rt,
-            shows,
-            &unit,
-            &[("f", AWAY, Some((kind, serial)))],
-        ),
-        Functions(functions) => check_functions(rt, shows, &unit, functions),
-    }
-    Ok(())
-}
-
-fn check_cases(rt: &(impl Abort + AllocGlobal), cases: &[Case]) -> Result<(), Fail> {
-    for case in cases {
-        check_case(rt, case)?;
-    }
-    Ok(())
-}
 
 #[test]
 fn breaking_lines_second_labels_and_freeze_bytes_freeze_the_file(
@@ -240,61 +113,6 @@ fn breaking_lines_second_labels_and_freeze_bytes_freeze_the_file(
                 "a freeze byte before a second label",
                 &[OPEN, ".L2:\n\t.long 8/2\n.L2:\n", CLOSE],
                 WholeFile(8),
-            ),
-        ],
-    )
-}
-
-#[test]
-fn functions_have_a_type_a_label_in_code_and_a_size(rt: HostRuntime) -> Result<(), Fail> {
-    check_cases(
-        &rt,
-        &[
-            (
-                "known lines are clear",
-                &[OPEN, "\tnop\n\tret\n", CLOSE],
-                Clear,
-            ),
-            (
-                "a table in the middle of its function",
-                &[PICK],
-                Functions(&[("pick", AWAY, None)]),
-            ),
-            ("no `.type`", &["f:\n\tret\n\t.size f, .-f\n"], NoFunction),
-            (
-                "a `.type` of an object",
-                &["\t.type f, @object\nf:\n\tret\n\t.size f, .-f\n"],
-                NoFunction,
-            ),
-            (
-                "a `.type` behind the label",
-                &["f:\n\t.type f, @function\n\tret\n\t.size f, .-f\n"],
-                NoFunction,
-            ),
-            (
-                "a `.size` of another name",
-                &[OPEN, "\tret\n\t.size g, .-g\n"],
-                NoFunction,
-            ),
-            (
-                "a label in data",
-                &["\t.data\n\t.type f, @function\nf:\n\tret\n\t.size f, .-f\n"],
-                NoFunction,
-            ),
-            (
-                "a section with a flag for code",
-                &["\t.section .init,\"ax\"\n\t.type f, @function\nf:\n\tret\n\t.size f, .-f\n"],
-                Clear,
-            ),
-            (
-                "a function in a function",
-                &[OPEN, "\t.type g, @function\ng:\n\tret\n", CLOSE_G, CLOSE],
-                Clear,
-            ),
-            (
-                "lines that end in two bytes, and no last newline",
-                &[".text\r\n.type f,@function\r\nf: nop\r\n\tret\r\n.size f,.-f"],
-                Clear,
             ),
         ],
     )
@@ -564,6 +382,16 @@ fn labels_used_outside_freeze(rt: HostRuntime) -> Result<(), Fail> {
                 Frozen(LabelOutside, 9),
             ),
             (
+                "an offset from the function beside its cell",
+                &[OPEN, "\tret\n", CLOSE, "\t.data\n\t.quad f+1, f\n"],
+                Frozen(LabelOutside, 9),
+            ),
+            (
+                "an offset from another name beside its cell",
+                &[OPEN, "\tret\n", CLOSE, "\t.data\n\t.quad z+1, f, z\n"],
+                Clear,
+            ),
+            (
                 "another label from the function on",
                 &[OPEN, "\tret\n", CLOSE, "\t.data\n.LX:\n\t.long .LX-f\n"],
                 Frozen(LabelOutside, 11),
@@ -621,124 +449,6 @@ fn exception_tables_of_the_range_freeze(rt: HostRuntime) -> Result<(), Fail> {
                     "\t.cfi_lsda 0x1b,.LLSDA0\n",
                 ],
                 Clear,
-            ),
-        ],
-    )
-}
-
-#[test]
-fn jumps_elsewhere_freeze(rt: HostRuntime) -> Result<(), Fail> {
-    check_cases(
-        &rt,
-        &[
-            (
-                "a jump to a label of data",
-                &[
-                    OPEN,
-                    ".L1:\n\tjmp g1\n\tret\n",
-                    CLOSE,
-                    "\t.data\ng1:\n\t.quad 0\n",
-                ],
-                Frozen(JumpElsewhere, 8),
-            ),
-            (
-                "a jump to an alias of such a label",
-                &[
-                    OPEN,
-                    "\tjne h\n\tret\n",
-                    CLOSE,
-                    "\t.data\ng1:\n\t.set h, g1\n",
-                ],
-                Frozen(JumpElsewhere, 6),
-            ),
-            (
-                "a jump to a part in another section",
-                &[
-                    OPEN,
-                    "\tjne .L9\n\tret\n\t.section .text.unlikely\n.L9:\n\tret\n\t.text\n",
-                    CLOSE,
-                ],
-                Frozen(JumpElsewhere, 6),
-            ),
-            (
-                "a jump to another function's alias",
-                &[
-                    OPEN,
-                    "\tjmp h\n",
-                    THEN_G,
-                    "\tret\n",
-                    CLOSE_G,
-                    "\t.set h, g\n",
-                ],
-                Functions(&[("f", AWAY, None), ("g", HOME, None)]),
-            ),
-            (
-                "a jump out of the file",
-                &[OPEN, "\tjmp puts\n", CLOSE],
-                Clear,
-            ),
-        ],
-    )
-}
-
-#[test]
-fn calls_jumps_and_unknown_lines_make_home(rt: HostRuntime) -> Result<(), Fail> {
-    check_cases(
-        &rt,
-        &[
-            (
-                "a call of itself",
-                &[OPEN, "\tcall f\n\tret\n", CLOSE],
-                Functions(&[("f", HOME, None)]),
-            ),
-            (
-                "a call with a specifier",
-                &[OPEN, "\tret\n", THEN_G, "\tcall f@PLT\n\tret\n", CLOSE_G],
-                Functions(&[("f", HOME, None), ("g", AWAY, None)]),
-            ),
-            (
-                "a jump from another function",
-                &[OPEN, "\tret\n", THEN_G, "\tjmp f\n", CLOSE_G],
-                Functions(&[("f", HOME, None), ("g", AWAY, None)]),
-            ),
-            (
-                "a jump on a condition",
-                &[OPEN, "\tret\n", THEN_G, "\tjne f\n\tret\n", CLOSE_G],
-                Functions(&[("f", HOME, None), ("g", AWAY, None)]),
-            ),
-            (
-                "a call through its place",
-                &[OPEN, "\tret\n", THEN_G, "\tcall *f(%rip)\n\tret\n", CLOSE_G],
-                Functions(&[("f", HOME, None), ("g", AWAY, None)]),
-            ),
-            (
-                "a call of an alias of an alias",
-                &[
-                    OPEN,
-                    "\tret\n",
-                    CLOSE,
-                    "\t.set h, f\n\t.set k, h\n\t.type g, @function\ng:\n",
-                    "\tcall k\n\tret\n",
-                    CLOSE_G,
-                ],
-                Functions(&[("f", HOME, None), ("g", AWAY, None)]),
-            ),
-            (
-                "a word of an unknown line",
-                &[OPEN, "\tret\n", CLOSE, "\tfoo f\n"],
-                Functions(&[("f", HOME, None)]),
-            ),
-            (
-                "its address, its cell, and a call of a longer name",
-                &[
-                    OPEN,
-                    "\tret\n",
-                    THEN_G,
-                    "\tleaq f(%rip), %rax\n\tcall f2\n\tret\n",
-                    CLOSE_G,
-                    "\t.data\n\t.quad f\n\t.globl f\n",
-                ],
-                Functions(&[("f", AWAY, None), ("g", AWAY, None)]),
             ),
         ],
     )

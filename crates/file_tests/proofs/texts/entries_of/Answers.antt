@@ -2,7 +2,7 @@ use Rattle.std.proofs.Common.{◌≡◌, ◌+◌, ◌∷◌, [], length, ap, sym
 use Rattle.insn_ir.specs.declared.entry.Entry.{Entry}
 use Rattle.asm_unit.specs.Held.{AreNumbered}
 use Rattle.asm_unit.proofs.Numbered.{numbered_more}
-use Rattle.mao_main.proofs.unit_tests.entries_of.Goals as goal
+use Rattle.file_tests.proofs.texts.entries_of.Goals as goal
 
 pub loop-i-preserved : goal.loop-i-preserved
 loop-i-preserved g c =
