@@ -7,6 +7,7 @@ mod pieces;
 mod scan;
 mod token;
 
+pub use lanes::stop_from;
 pub use pieces::{
     CutFault, CutFreeze, Pieces, Span, SpanList, cut_pieces, pieces_of_a_text, pieces_that_are_left,
 };

@@ -1,9 +1,11 @@
 // Lines that were read before.
 ghost use Rattle.std.specs.Prelude.{◌≡◌, ◌<◌, IfSome};
 ghost use Rattle.att_grammar.specs.Entries.{kind_of_piece};
+ghost use Rattle.att_reader.specs.Comments.{IsUpToComment};
 ghost use Rattle.att_reader.specs.Plain.{kind_of};
 
 use crate::plain::{PlainKind, plain_kind};
+use att_lexer::{is_first_label, stop_from};
 use insn_ir::EntryKind;
 use std::alloc::{AllocError, Global};
 use std::hash::{FoldHasher, Hasher};
@@ -11,8 +13,8 @@ use std::hash::{FoldHasher, Hasher};
 // How many lines are kept: each in the place of its hash, where the last that came stays.
 const PLACES: usize = 4096;
 
-// Longer lines seldom come again.
-const LONGEST: usize = 256;
+// Longer lines seldom come again, but for what stands before their comments.
+const LONGEST: usize = 64;
 
 // A line, and what it is.
 #[derive(Drop)]
@@ -39,6 +41,22 @@ fn place_of(line: &[u8]) -> usize
     hasher.finish() as usize % PLACES
 }
 
+// A line up to the `#` of its comment, where that comes early.
+#[inline]
+fn up_to_comment(line: &[u8]) -> Option<&[u8]>
+    ensures { IfSome result (λ front. IsUpToComment front.now line.now) }
+{
+    let at = stop_from(line, 0);
+    if LONGEST <= at || line.len() <= at || line[at] != b'#' || is_first_label(line) {
+        return None;
+    }
+    let front = &line[..at + 1];
+    if is_first_label(front) {
+        return None;
+    }
+    Some(front)
+}
+
 impl KnownLine {
     // The line of no bytes.
     fn none(alloc: Global) -> KnownLine {
@@ -57,23 +75,44 @@ impl KnownLines {
         }
     }
 
-    /// What a line is, if it is known.
-    #[inline]
-    pub fn find(&self, line: &[u8]) -> Option<PlainKind>
-        ensures { IfSome result (λ k. kind_of k ≡ kind_of_piece line.now) }
+    // What a line that may be kept is, if it is known.
+    #[inline(always)]
+    fn kept(&self, line: &[u8]) -> Option<&PlainKind>
+        ensures { IfSome result (λ k. kind_of k.now ≡ kind_of_piece line.now) }
     {
-        if LONGEST < line.len() {
-            return None;
-        }
         let place = place_of(line);
         if self.lines.len() <= place {
             return None;
         }
         let known = &self.lines[place];
         if known.line.as_slice() == line {
-            Some(known.kind)
+            Some(&known.kind)
         } else {
             None
+        }
+    }
+
+    // What a line with a comment is, if it is an instruction that is known up to the comment.
+    fn kept_up_to_comment(&self, line: &[u8]) -> Option<&PlainKind>
+        ensures { IfSome result (λ k. kind_of k.now ≡ kind_of_piece line.now) }
+    {
+        let front = up_to_comment(line)?;
+        let kind = self.kept(front)?;
+        match kind {
+            PlainKind::Insn(_) => Some(kind),
+            _ => None,
+        }
+    }
+
+    /// What a line is, if it is known.
+    #[inline]
+    pub fn find(&self, line: &[u8]) -> Option<&PlainKind>
+        ensures { IfSome result (λ k. kind_of k.now ≡ kind_of_piece line.now) }
+    {
+        if line.len() <= LONGEST {
+            self.kept(line)
+        } else {
+            self.kept_up_to_comment(line)
         }
     }
 
@@ -86,13 +125,10 @@ impl KnownLines {
         Ok(())
     }
 
-    /// Keeps what a line is, if it names no symbol.
-    pub fn note(&mut self, alloc: Global, line: &[u8], kind: &EntryKind) -> Result<(), AllocError>
+    // Keeps what a line is, if it names no symbol.
+    fn keep(&mut self, alloc: Global, line: &[u8], kind: &EntryKind) -> Result<(), AllocError>
         requires { kind.now ≡ kind_of_piece line.now }
     {
-        if LONGEST < line.len() {
-            return Ok(());
-        }
         let Some(kind) = plain_kind(kind) else {
             return Ok(());
         };
@@ -105,6 +141,22 @@ impl KnownLines {
                 line: Vec::from_slice(alloc, line)?,
                 kind,
             };
+        }
+        Ok(())
+    }
+
+    /// Keeps what a line is, if it names no symbol. Of a long line an instruction is kept with the `#` of the comment behind it,
+    /// whatever the comment says.
+    pub fn note(&mut self, alloc: Global, line: &[u8], kind: &EntryKind) -> Result<(), AllocError>
+        requires { kind.now ≡ kind_of_piece line.now }
+    {
+        if line.len() <= LONGEST {
+            return self.keep(alloc, line, kind);
+        }
+        if let EntryKind::Insn(_) = kind
+            && let Some(front) = up_to_comment(line)
+        {
+            return self.keep(alloc, front, kind);
         }
         Ok(())
     }
