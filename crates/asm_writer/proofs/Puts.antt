@@ -1,5 +1,5 @@
 -- Fragments that are put one after another.
-use Rattle.std.proofs.Common.{◌≡◌, ℕ, ◌+◌, ◌<◌, List, [], ◌++◌, length, take, drop, get_or, Some, None, ap, sym, subst, ◌∙◌, arith, append_assoc, append-nil, length-append}
+use Rattle.std.proofs.Common.{◌≡◌, ℕ, ◌+◌, ◌<◌, List, [], ◌++◌, length, take, drop, get_or, Some, None, refl, ap, sym, subst, ◌∙◌, arith, append_assoc, append-nil, length-append}
 use Rattle.std.proofs.lemmas.List.{drop_more, take-append-le}
 use Rattle.std.proofs.Math.Seq.{take-append-add}
 use Rattle.std.specs.declared.option.Option.{Option}
@@ -45,3 +45,19 @@ put_part old mid new done part rest all first cut e =
 -- the last part failed
 pub last_part : (old mid new : Option (List ℕ)) (done part : List ℕ) → Appends old mid done → IsFront mid new part → IsFront old new (done ++ part)
 last_part old mid new done part first cut = put_part old mid new done part [] (done ++ part) first cut (ap (λ l. done ++ l) (append-nil part))
+
+-- the first part failed
+pub put_front : (old new : Option (List ℕ)) (part rest : List ℕ) → IsFront old new part → IsFront old new (part ++ rest)
+put_front old new part rest cut = put_part old old new [] part rest (part ++ rest) (Appends-none old) cut refl
+
+-- what was put and what waits are all before the rest
+pub put_whole : (old mid new : Option (List ℕ)) (put waiting before : List ℕ) → Appends old mid put → put ++ waiting ≡ before → Appends mid new waiting → Appends old new before
+put_whole old mid new put waiting before first e second = subst (Appends old new) e (Appends-append old mid new put waiting first second)
+
+-- what waits failed
+pub waiting_part : (old mid new : Option (List ℕ)) (put waiting before rest : List ℕ) → Appends old mid put → put ++ waiting ≡ before → IsFront mid new waiting → IsFront old new (before ++ rest)
+waiting_part old mid new put waiting before rest first e cut =
+    put_part old mid new put waiting rest (before ++ rest) first cut (sym (append_assoc put waiting rest) ∙ ap (λ l. l ++ rest) e)
+
+pub waiting_last : (old mid new : Option (List ℕ)) (put waiting before : List ℕ) → Appends old mid put → put ++ waiting ≡ before → IsFront mid new waiting → IsFront old new before
+waiting_last old mid new put waiting before first e cut = subst (IsFront old new) e (last_part old mid new put waiting first cut)

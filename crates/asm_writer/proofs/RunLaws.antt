@@ -6,7 +6,7 @@ use Rattle.att_lexer.specs.declared.pieces.Span.{Span}
 use Rattle.insn_ir.specs.declared.entry.EntryKind.{EntryKind}
 use Rattle.asm_writer.specs.declared.unit.Run.{Run}
 use Rattle.asm_writer.specs.Unit.{new_text, entry_text}
-use Rattle.asm_writer.specs.Runs.{run_text}
+use Rattle.asm_writer.specs.Runs.{run_text, waits}
 
 run_more : (text : List ℕ) (from to len : ℕ) → from ≤ to → take (to + len - from) (drop from text) ≡ take (to - from) (drop from text) ++ take len (drop to text)
 run_more text from to len le =
@@ -27,10 +27,17 @@ joins text kind o s run is e le =
 none_waits : (text : List ℕ) (at : ℕ) → take (at - at) (drop at text) ≡ []
 none_waits text at = let e : at - at ≡ 0 = omega arith in ap (λ n. take n (drop at text)) e
 
--- the run and the new entry behind it
-pub put_first : (text : List ℕ) (kind : EntryKind) (o : Option Span) (run : Run) → o ≡ None
-    → (run_text text run ++ new_text kind) ++ run_text text (record { from = run.to; to = run.to }) ≡ run_text text run ++ entry_text text kind o
-put_first text kind o run is =
-    ap (λ l. (run_text text run ++ new_text kind) ++ l) (none_waits text run.to)
-    ∙ append-nil (run_text text run ++ new_text kind)
-    ∙ ap (λ o. run_text text run ++ entry_text text kind o) (sym is)
+-- a new entry behind what was put, and an empty run
+pub put_first : (text : List ℕ) (kind : EntryKind) (o : Option Span) (before : List ℕ) (at : ℕ) → o ≡ None
+    → (before ++ new_text kind) ++ waits [] text (record { from = at; to = at }) ≡ before ++ entry_text text kind o
+put_first text kind o before at is =
+    ap (λ l. (before ++ new_text kind) ++ l) (none_waits text at)
+    ∙ append-nil (before ++ new_text kind)
+    ∙ ap (λ o. before ++ entry_text text kind o) (sym is)
+
+-- a piece that begins a run
+pub begins : (text : List ℕ) (kind : EntryKind) (o : Option Span) (s : Span) → o ≡ Some s
+    → run_text text (record { from = s.start; to = s.start + s.len }) ≡ entry_text text kind o
+begins text kind o s is =
+    let long : s.start + s.len - s.start ≡ s.len = omega arith in
+    ap (λ n. take n (drop s.start text)) long ∙ ap (entry_text text kind) (sym is)

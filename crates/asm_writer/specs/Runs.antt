@@ -23,3 +23,7 @@ text_at text hs serial = found_text text (find (serial_is serial) hs)
 -- all is put but what waits
 abbrev pub Passes : Option (List ℕ) → Option (List ℕ) → List ℕ → List ℕ → Type 0
 Passes old new all waits = (put : List ℕ) × Appends old new put × (put ++ waits ≡ all)
+
+-- what is gathered, and the run behind it
+abbrev pub waits : List ℕ → List ℕ → Run → List ℕ
+waits gathered text run = gathered ++ run_text text run

@@ -1,25 +1,72 @@
 // The text of a unit, put into a sink.
 
-ghost use Rattle.std.specs.Prelude.{◌<◌, ◌++◌, ℕ, take, length, OnOk, OnErr, IfOk};
+ghost use Rattle.std.specs.Prelude.{◌≡◌, ◌<◌, ◌++◌, [], ℕ, take, length, OnOk, OnErr, IfOk};
+ghost use Rattle.std.specs.Bool.{OnTrue, OnFalse};
 ghost use Rattle.std.specs.Io.KnownBytes.{Appends};
 ghost use Rattle.mao_outside.specs.Causes.{HasCause};
 ghost use Rattle.asm_writer.specs.Fragments.{fragments_text};
 ghost use Rattle.asm_writer.specs.Unit.{new_line, new_text, entry_text, unit_text, IsOfProfile, IsWritable, AreWritable};
-ghost use Rattle.asm_writer.specs.Runs.{IsRun, run_text, text_at, Passes};
+ghost use Rattle.asm_writer.specs.Runs.{IsRun, run_text, text_at, Passes, waits};
 
 use crate::fragment::Fragment;
 use crate::line::{align_fragments, insn_fragments};
 use crate::sink::put_fragments;
+use arrayvec::ArrayVec;
 use asm_unit::AsmUnit;
 use att_lexer::Span;
 use insn_ir::{DirectiveKind, EntryKind};
 use mao_outside::{Failed, Sink, put_all};
 
-// Kept pieces that follow one another in the text and aren't put yet.
+// How many bytes wait to be put together at most.
+const ROOM: usize = 8192;
+
+// Bytes that aren't put yet. They are gathered, since a sink takes few long pieces sooner than many short ones.
+type Gathered = ArrayVec<u8, ROOM>;
+
+// Kept pieces that follow one another in the text and aren't gathered yet.
 #[derive(Clone, Copy)]
 struct Run {
     from: usize,
     to: usize,
+}
+
+// Puts what is gathered.
+fn put_gathered<K: Sink>(sink: &mut K, gathered: &mut Gathered) -> Result<(), Failed>
+    ensures all { OnOk result (Appends (K.taken sink.old) (K.taken sink.new) gathered.old.items) }
+    ensures none { OnOk result (gathered.new.items ≡ []) }
+    ensures part { OnErr result ((n : ℕ) × (n < length gathered.old.items)
+        × Appends (K.taken sink.old) (K.taken sink.new) (take n gathered.old.items)) }
+    ensures cause { HasCause (K.faults sink.old) (K.faults sink.new) result }
+{
+    put_all(sink, gathered.as_slice())?;
+    gathered.clear();
+    Ok(())
+}
+
+// Whether bytes have room with what is gathered: then they go with it.
+fn join(gathered: &mut Gathered, bytes: &[u8]) -> bool
+    ensures joined { OnTrue result (gathered.new.items ≡ gathered.old.items ++ bytes.now) }
+    ensures left { OnFalse result (gathered.new.items ≡ gathered.old.items) }
+{
+    gathered.try_extend_from_slice(bytes).is_ok()
+}
+
+// Bytes that go with what is gathered, which is put first where they have no room with it.
+fn gather<K: Sink>(sink: &mut K, gathered: &mut Gathered, bytes: &[u8]) -> Result<(), Failed>
+    ensures all { OnOk result (Passes (K.taken sink.old) (K.taken sink.new) (gathered.old.items ++ bytes.now) gathered.new.items) }
+    ensures part { OnErr result ((n : ℕ) × (n < length (gathered.old.items ++ bytes.now))
+        × Appends (K.taken sink.old) (K.taken sink.new) (take n (gathered.old.items ++ bytes.now))) }
+    ensures cause { HasCause (K.faults sink.old) (K.faults sink.new) result }
+{
+    if join(gathered, bytes) {
+        return Ok(());
+    }
+    put_gathered(sink, gathered)?;
+    if join(gathered, bytes) {
+        return Ok(());
+    }
+    put_all(sink, bytes)?;
+    Ok(())
 }
 
 // A tab, what the fragments say, and a newline.
@@ -52,20 +99,10 @@ fn put_new<K: Sink>(sink: &mut K, kind: &EntryKind) -> Result<(), Failed>
     }
 }
 
-// The pieces of a run.
-fn put_run<K: Sink>(sink: &mut K, text: &[u8], run: Run) -> Result<(), Failed>
-    requires { IsRun text.now run }
-    ensures all { OnOk result (Appends (K.taken sink.old) (K.taken sink.new) (run_text text.now run)) }
-    ensures part { OnErr result ((n : ℕ) × (n < length (run_text text.now run))
-        × Appends (K.taken sink.old) (K.taken sink.new) (take n (run_text text.now run))) }
-    ensures cause { HasCause (K.faults sink.old) (K.faults sink.new) result }
-{
-    put_all(sink, &text[run.from..run.to])
-}
-
-// One entry more: a piece that joins the run waits with it, and any other entry has the run put first.
+// One entry more: a piece that joins the run waits with it, and any other entry has the run gathered first.
 fn pass<K: Sink>(
     sink: &mut K,
+    gathered: &mut Gathered,
     text: &[u8],
     run: Run,
     kind: &EntryKind,
@@ -74,13 +111,14 @@ fn pass<K: Sink>(
     requires run { IsRun text.now run }
     requires writable { IsWritable text.now kind.now span }
     ensures run { IfOk result (IsRun text.now) }
-    ensures all { IfOk result (λ next. Passes (K.taken sink.old) (K.taken sink.new) (run_text text.now run ++ entry_text text.now kind.now span) (run_text text.now next)) }
-    ensures part { OnErr result ((n : ℕ) × (n < length (run_text text.now run ++ entry_text text.now kind.now span))
-        × Appends (K.taken sink.old) (K.taken sink.new) (take n (run_text text.now run ++ entry_text text.now kind.now span))) }
+    ensures all { IfOk result (λ next. Passes (K.taken sink.old) (K.taken sink.new) (waits gathered.old.items text.now run ++ entry_text text.now kind.now span) (waits gathered.new.items text.now next)) }
+    ensures part { OnErr result ((n : ℕ) × (n < length (waits gathered.old.items text.now run ++ entry_text text.now kind.now span))
+        × Appends (K.taken sink.old) (K.taken sink.new) (take n (waits gathered.old.items text.now run ++ entry_text text.now kind.now span))) }
     ensures cause { HasCause (K.faults sink.old) (K.faults sink.new) result }
 {
     let Some(span) = span else {
-        put_run(sink, text, run)?;
+        gather(sink, gathered, &text[run.from..run.to])?;
+        put_gathered(sink, gathered)?;
         put_new(sink, kind)?;
         return Ok(Run {
             from: run.to,
@@ -92,13 +130,14 @@ fn pass<K: Sink>(
     if start == run.to {
         return Ok(Run { from: run.from, to });
     }
-    put_run(sink, text, run)?;
+    gather(sink, gathered, &text[run.from..run.to])?;
     Ok(Run { from: start, to })
 }
 
 // The entry of a serial more.
 fn pass_entry<K: Sink>(
     sink: &mut K,
+    gathered: &mut Gathered,
     text: &[u8],
     run: Run,
     unit: &AsmUnit,
@@ -107,21 +146,39 @@ fn pass_entry<K: Sink>(
     requires run { IsRun text.now run }
     requires writable { AreWritable text.now unit.now.held }
     ensures run { IfOk result (IsRun text.now) }
-    ensures all { IfOk result (λ next. Passes (K.taken sink.old) (K.taken sink.new) (run_text text.now run ++ text_at text.now unit.now.held serial) (run_text text.now next)) }
-    ensures part { OnErr result ((n : ℕ) × (n < length (run_text text.now run ++ text_at text.now unit.now.held serial))
-        × Appends (K.taken sink.old) (K.taken sink.new) (take n (run_text text.now run ++ text_at text.now unit.now.held serial))) }
+    ensures all { IfOk result (λ next. Passes (K.taken sink.old) (K.taken sink.new) (waits gathered.old.items text.now run ++ text_at text.now unit.now.held serial) (waits gathered.new.items text.now next)) }
+    ensures part { OnErr result ((n : ℕ) × (n < length (waits gathered.old.items text.now run ++ text_at text.now unit.now.held serial))
+        × Appends (K.taken sink.old) (K.taken sink.new) (take n (waits gathered.old.items text.now run ++ text_at text.now unit.now.held serial))) }
     ensures cause { HasCause (K.faults sink.old) (K.faults sink.new) result }
 {
     match unit.entry(serial) {
-        Some(entry) => pass(sink, text, run, &entry.kind, unit.span(serial)),
+        Some(entry) => pass(sink, gathered, text, run, &entry.kind, unit.span(serial)),
         None => Ok(run),
     }
+}
+
+// The run and what is gathered, put at the end.
+fn put_rest<K: Sink>(
+    sink: &mut K,
+    gathered: &mut Gathered,
+    text: &[u8],
+    run: Run,
+) -> Result<(), Failed>
+    requires { IsRun text.now run }
+    ensures all { OnOk result (Appends (K.taken sink.old) (K.taken sink.new) (waits gathered.old.items text.now run)) }
+    ensures part { OnErr result ((n : ℕ) × (n < length (waits gathered.old.items text.now run))
+        × Appends (K.taken sink.old) (K.taken sink.new) (take n (waits gathered.old.items text.now run))) }
+    ensures cause { HasCause (K.faults sink.old) (K.faults sink.new) result }
+{
+    gather(sink, gathered, &text[run.from..run.to])?;
+    put_gathered(sink, gathered)?;
+    Ok(())
 }
 
 /// Puts the text of a unit into the sink. `text` is what the unit was read from: kept pieces stand as they did there,
 /// and an entry that has no piece is a tab, its canonical text and a newline.
 ///
-/// Kept pieces that follow one another are put together. It takes no memory. `Failed` comes only where the sink
+/// Kept pieces are put together, some thousand bytes a call. It takes no memory. `Failed` comes only where the sink
 /// counted a fault; then a proper prefix was taken.
 pub fn write_unit<K: Sink>(unit: &AsmUnit, text: &[u8], sink: &mut K) -> Result<(), Failed>
     requires writable { AreWritable text.now unit.now.held }
@@ -130,12 +187,13 @@ pub fn write_unit<K: Sink>(unit: &AsmUnit, text: &[u8], sink: &mut K) -> Result<
         × Appends (K.taken sink.old) (K.taken sink.new) (take n (unit_text text.now unit.now.held))) }
     ensures cause { HasCause (K.faults sink.old) (K.faults sink.new) result }
 {
+    let mut gathered = Gathered::new();
     let mut run = Run { from: 0, to: 0 };
     let mut at = unit.first();
     while let Some(serial) = at {
-        run = pass_entry(sink, text, run, unit, serial)?;
+        run = pass_entry(sink, &mut gathered, text, run, unit, serial)?;
         at = unit.next(serial);
     }
-    put_run(sink, text, run)?;
+    put_rest(sink, &mut gathered, text, run)?;
     Ok(())
 }

@@ -2,11 +2,11 @@ use Rattle.std.proofs.Common.{◌≡◌, ◌≤◌, ◌++◌, ℕ, List, length}
 use Rattle.std.specs.Io.KnownBytes.{Appends}
 use Rattle.asm_unit.specs.Held.{first_of}
 use Rattle.asm_writer.specs.Unit.{unit_text}
-use Rattle.asm_writer.specs.Runs.{IsRun, run_text}
+use Rattle.asm_writer.specs.Runs.{IsRun, waits}
 use Rattle.asm_writer.proofs.UnitLaws.{from_serial}
 use Rattle.asm_writer.proofs.unit.write_unit.Given as goal
 
--- what was put so far, the run that waits, and the text of the entries that are left, is the text of the unit
+-- what was put so far, what waits, and the text of the entries that are left, is the text of the unit
 abbrev pub invariant-loop-at : goal.invariant-loop-at
 invariant-loop-at g l =
     let sink = g.K.Sink in
@@ -15,7 +15,7 @@ invariant-loop-at g l =
       there : l.at ≡ first_of left;
       run : IsRun l.text l.run;
       put : (done : List ℕ) × Appends (sink.taken l.initial.sink) (sink.taken l.sink) done
-          × (done ++ (run_text l.text l.run ++ unit_text l.text left) ≡ unit_text l.text l.unit.held);
+          × (done ++ (waits l.gathered.items l.text l.run ++ unit_text l.text left) ≡ unit_text l.text l.unit.held);
       later : sink.faults l.initial.sink ≤ sink.faults l.sink;
     }
 
