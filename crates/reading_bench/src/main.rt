@@ -12,9 +12,6 @@ use std::io::{self, Read};
 /// The longest text that is cut, in bytes.
 const MAX_BYTES: usize = 33_554_432;
 
-/// The bytes that one call of a reader may give.
-const ROOM: usize = 65_536;
-
 // Reads the entries of a text, one after another, and lets each go.
 fn read_each(alloc: Global, text: &[u8], spans: &[Span]) -> Result<usize, AllocError>
     ensures { IfOk result (λ n. n ≡ length spans.now) }
@@ -42,26 +39,10 @@ fn count_entries(alloc: Global, text: &[u8]) -> Result<usize, CutFault>
     }
 }
 
-// The bytes that a reader has left, up to the longest text, by way of a room, as the program takes them.
-fn read_text<R: Read>(alloc: Global, reader: &mut R) -> io::Result<Vec<u8>>
-    ensures { IfOk result (λ text. length text.items ≤ 33554432) }
-{
-    let mut room = vec![in alloc; 0u8; ROOM]?;
-    let mut text = Vec::new(alloc);
-    // Each call gives a byte or the end.
-    for _ in 0..MAX_BYTES {
-        let count = reader.read(&mut room)?;
-        if count == 0 || MAX_BYTES <= text.len() {
-            break;
-        }
-        text.extend_from_slice(&room[..count])?;
-    }
-    text.truncate(MAX_BYTES);
-    Ok(text)
-}
-
 fn main(rt: HostRuntime) -> io::Result<()> {
-    let text = read_text(rt.alloc(), &mut rt.stdin())?;
+    let mut text = Vec::new(rt.alloc());
+    rt.stdin().read_to_end(&mut text)?;
+    text.truncate(MAX_BYTES);
     match count_entries(rt.alloc(), &text) {
         Ok(count) => println!(rt; "{count} entries"),
         Err(_) => println!(rt; "not read"),
