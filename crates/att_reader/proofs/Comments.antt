@@ -1,17 +1,23 @@
 -- What a comment says changes no instruction.
-use Rattle.std.proofs.Common.{◌≡◌, ℕ, zero, suc, ◌+◌, ◌-◌, ◌≤◌, Bool, true, false, not, ◌&&◌, ◌||◌, List, [], ◌∷◌, ◌++◌, length, length-drop, take, drop, refl, ap, sym, ◌∙◌, subst, ⊎_elim, arith}
-use Rattle.std.specs.Prelude.{◌==◌, if◌then◌else◌}
-use Rattle.std.specs.List.{AllByRecursion, take_while, prefix_len}
+use Rattle.std.proofs.Common.{◌≡◌, ℕ, zero, suc, ◌+◌, ◌-◌, ◌≤◌, Bool, true, false, not, ◌&&◌, ◌||◌, List, [], ◌∷◌, ◌++◌, length, length-append, length-drop, take, drop, refl, ap, sym, ◌∙◌, subst, ⊎_elim, arith}
+use Rattle.std.specs.Prelude.{◌==◌, if◌then◌else◌, slice_index}
+use Rattle.std.specs.List.{AllByRecursion, fold, take_while, prefix_len}
+use Rattle.std.proofs.Math.Bool.{and-false}
+use Rattle.std.proofs.Math.Seq.{get_or-append_seam, take-append-add}
 use Rattle.std.proofs.lemmas.Bool.{cond-true, cond-false, cases_Bool, false≢true}
 use Rattle.std.proofs.lemmas.Bool.Decides.{nat_tests}
 use Rattle.std.proofs.lemmas.List.{take-append-drop, drop-append-le, take-append-le, drop_more, take_more}
-use Rattle.std.proofs.lemmas.List.Sums.{take_while-cons}
+use Rattle.std.proofs.lemmas.List.Sums.{fold-append, take_while-cons}
 use Rattle.insn_ir.specs.declared.entry.EntryKind.{EntryKind}
 use Rattle.insn_ir.specs.declared.insn.Insn.{Insn}
-use Rattle.att_lexer.specs.Bytes.{is_blank, is_digit, is_letter, is_symbol_byte, is_calm, is_stop, is_freeze_byte}
+use Rattle.att_lexer.specs.Bytes.{is_blank, is_digit, is_letter, is_symbol_byte, is_symbol_start, is_calm, is_stop, is_freeze_byte}
 use Rattle.att_lexer.specs.Tokens.{run_token, token_of, ends_tokens, tokens_from, is_first_label, tokens_of, AreInOrder}
+use Rattle.att_lexer.specs.Scan.{lead_after, is_name}
+use Rattle.att_lexer.specs.declared.scan.Lead.{Lead}
+use Rattle.att_lexer.specs.declared.scan.Lead.TheVariants.{Blanks, Symbol, Digits, Other}
 use Rattle.att_lexer.specs.declared.token.Token.{Token}
 use Rattle.att_lexer.specs.declared.token.TokenKind.TheVariants.{Mark}
+use Rattle.att_lexer.proofs.ScanLaws.{other_stays}
 use Rattle.att_lexer.proofs.TokensLaws.{from_end, from_blank, from_token, token_at, tokens_in_order}
 use Rattle.att_grammar.specs.Lexemes.{content, lexeme, says_all}
 use Rattle.att_grammar.specs.Directives.{is_assignment}
@@ -109,19 +115,40 @@ calm_front (b ∷ bs) =
     (λ e. subst (λ n. AreCalm (take n (b ∷ bs))) (sym (cond-false (is_calm b) (1 + prefix_len is_calm bs) 0 e)) tt)
     (cases_Bool (is_calm b))
 
+-- no first label goes on behind a `#`
+other_behind : (go : Lead) (rest : List ℕ) → fold lead_after go (35 ∷ rest) ≡ Other
+unfolding is_symbol_start is_symbol_byte is_letter is_digit is_blank
+other_behind Blanks rest = other_stays rest
+other_behind Symbol rest = other_stays rest
+other_behind Digits rest = other_stays rest
+other_behind Other rest = other_stays rest
+
+no_name : (p rest : List ℕ) → is_name (fold lead_after Blanks (p ++ 35 ∷ rest)) ≡ false
+no_name p rest = ap is_name (fold-append lead_after Blanks p (35 ∷ rest) ∙ other_behind (fold lead_after Blanks p) rest)
+
+-- a piece with a comment is no first label
+no_label : (p rest : List ℕ) → is_first_label (p ++ 35 ∷ rest) ≡ false
+no_label p [] = ap (λ b. b == 58 && is_name (fold lead_after Blanks (take (length (p ++ 35 ∷ []) - 1) (p ++ 35 ∷ [])))) (ap (slice_index (p ++ 35 ∷ [])) (omega (arith, length-append p (35 ∷ []))) ∙ get_or-append_seam p 35 [] 0)
+no_label p (r ∷ rs) =
+    let x = p ++ 35 ∷ r ∷ rs in
+    let front : take (length x - 1) x ≡ p ++ 35 ∷ take (length rs) (r ∷ rs) = ap (λ n. take n x) (omega (arith, length-append p (35 ∷ r ∷ rs))) ∙ take-append-add p (35 ∷ r ∷ rs) (suc (length rs)) in
+    ap (λ t. slice_index x (length x - 1) == 58 && is_name (fold lead_after Blanks t)) front
+    ∙ ap (λ t. slice_index x (length x - 1) == 58 && t) (no_name p (take (length rs) (r ∷ rs)))
+    ∙ and-false (slice_index x (length x - 1) == 58)
+
 -- two pieces with the same calm front and a comment behind it
-same_front : (p one other : List ℕ) (i : Insn) → AreCalm p → is_first_label (p ++ 35 ∷ one) ≡ false → is_first_label (p ++ 35 ∷ other) ≡ false → kind_of_piece (p ++ 35 ∷ one) ≡ EntryKind.Insn i → kind_of_piece (p ++ 35 ∷ other) ≡ EntryKind.Insn i
+same_front : (p one other : List ℕ) (i : Insn) → AreCalm p → kind_of_piece (p ++ 35 ∷ one) ≡ EntryKind.Insn i → kind_of_piece (p ++ 35 ∷ other) ≡ EntryKind.Insn i
 unfolding kind_of_piece
-same_front p one other i calm first second is =
+same_front p one other i calm is =
     let x = p ++ 35 ∷ one in
     let y = p ++ 35 ∷ other in
     let ts = tokens_from 0 0 p in
-    let of_x : tokens_of x ≡ ts = ap (tokens_from 0 0) (cond-false (is_first_label x) _ _ first) ∙ tokens_before 0 0 p one calm (omega arith) in
-    let of_y : tokens_of y ≡ ts = ap (tokens_from 0 0) (cond-false (is_first_label y) _ _ second) ∙ tokens_before 0 0 p other calm (omega arith) in
+    let of_x : tokens_of x ≡ ts = ap (tokens_from 0 0) (cond-false (is_first_label x) _ _ (no_label p one)) ∙ tokens_before 0 0 p one calm (omega arith) in
+    let of_y : tokens_of y ≡ ts = ap (tokens_from 0 0) (cond-false (is_first_label y) _ _ (no_label p other)) ∙ tokens_before 0 0 p other calm (omega arith) in
     let order : AreInOrder 0 (length p) ts = tokens_in_order 0 0 (length p) p (omega arith) in
     let same = says_before p (35 ∷ one) 0 ts order ∙ sym (says_before p (35 ∷ other) 0 ts order) in
-    let insn : unlabelled x ts ≡ EntryKind.Insn i = ap (unlabelled x) (sym of_x) ∙ sym (cond-false (is_first_label x) _ _ first) ∙ is in
-    cond-false (is_first_label y) _ _ second ∙ ap (unlabelled y) of_y ∙ same_insn x y ts i same insn
+    let insn : unlabelled x ts ≡ EntryKind.Insn i = ap (unlabelled x) (sym of_x) ∙ sym (cond-false (is_first_label x) _ _ (no_label p one)) ∙ is in
+    cond-false (is_first_label y) _ _ (no_label p other) ∙ ap (unlabelled y) of_y ∙ same_insn x y ts i same insn
 
 -- a line that has a comment, and its front
 record IsCutAt (front line p rest : List ℕ) : Type 0 where
@@ -144,8 +171,6 @@ from_front front line i up is =
     let at = cut_at front line up in
     ap kind_of_piece at.whole
     ∙ same_front p [] rest i (calm_front line)
-    (subst (λ x. is_first_label x ≡ false) at.cut up.front_is_no_label)
-    (subst (λ x. is_first_label x ≡ false) at.whole up.line_is_no_label)
     (ap kind_of_piece (sym at.cut) ∙ is)
 
 pub to_front : (front line : List ℕ) (i : Insn) → IsUpToComment front line → kind_of_piece line ≡ EntryKind.Insn i → kind_of_piece front ≡ EntryKind.Insn i
@@ -155,6 +180,4 @@ to_front front line i up is =
     let at = cut_at front line up in
     ap kind_of_piece at.cut
     ∙ same_front p rest [] i (calm_front line)
-    (subst (λ x. is_first_label x ≡ false) at.whole up.line_is_no_label)
-    (subst (λ x. is_first_label x ≡ false) at.cut up.front_is_no_label)
     (ap kind_of_piece (sym at.whole) ∙ is)

@@ -1,8 +1,7 @@
 -- A line up to the comment at its end (GNU as manual, "Comments"). Only private clauses cite it.
-use Rattle.std.specs.Prelude.{ℕ, ◌+◌, ◌<◌, ◌≡◌, false, List, length, take, get_or}
+use Rattle.std.specs.Prelude.{ℕ, ◌+◌, ◌<◌, ◌≡◌, List, length, take, get_or}
 use Rattle.std.specs.List.{prefix_len}
 use Rattle.att_lexer.specs.Bytes.{is_calm}
-use Rattle.att_lexer.specs.Tokens.{is_first_label}
 
 -- where the first byte stands that may end a piece or begin a string or a comment
 abbrev pub calm_len : List ℕ → ℕ
@@ -13,5 +12,3 @@ pub record IsUpToComment (front line : List ℕ) : Type 0 where
   pub within : calm_len line < length line
   pub hash : get_or line (calm_len line) 0 ≡ 35
   pub is_front : front ≡ take (calm_len line + 1) line
-  pub line_is_no_label : is_first_label line ≡ false
-  pub front_is_no_label : is_first_label front ≡ false

@@ -5,7 +5,7 @@ ghost use Rattle.att_reader.specs.Comments.{IsUpToComment};
 ghost use Rattle.att_reader.specs.Plain.{kind_of};
 
 use crate::plain::{PlainKind, plain_kind};
-use att_lexer::{is_first_label, stop_from};
+use att_lexer::stop_from;
 use insn_ir::EntryKind;
 use std::alloc::{AllocError, Global};
 use std::hash::{FoldHasher, Hasher};
@@ -47,14 +47,10 @@ fn up_to_comment(line: &[u8]) -> Option<&[u8]>
     ensures { IfSome result (λ front. IsUpToComment front.now line.now) }
 {
     let at = stop_from(line, 0);
-    if LONGEST <= at || line.len() <= at || line[at] != b'#' || is_first_label(line) {
+    if LONGEST <= at || line.len() <= at || line[at] != b'#' {
         return None;
     }
-    let front = &line[..at + 1];
-    if is_first_label(front) {
-        return None;
-    }
-    Some(front)
+    Some(&line[..at + 1])
 }
 
 impl KnownLine {

@@ -144,36 +144,39 @@ impl PlainArg {
 }
 
 impl PlainKind {
-    #[inline(always)]
-    fn kind(self) -> EntryKind
-        ensures { result ≡ kind_of self }
-    {
-        match self {
-            PlainKind::Blank => EntryKind::Blank,
-            PlainKind::Inert => EntryKind::Directive(DirectiveKind::Inert),
-            PlainKind::Cfi => EntryKind::Directive(DirectiveKind::Cfi),
-            PlainKind::Align { power, fill, max } => {
-                EntryKind::Directive(DirectiveKind::Align { power, fill, max })
-            }
-            PlainKind::Insn(insn) => EntryKind::Insn(Insn {
-                op: insn.op,
-                width: insn.width,
-                a: insn.a.arg(),
-                b: insn.b.arg(),
-                c: insn.c.arg(),
-            }),
-        }
-    }
-
     /// Appends the entry of this kind, made where it is to stay.
     #[inline(always)]
     pub fn put(self, out: &mut Vec<Entry>, serial: u32)
         requires room { out.old.len < out.old.cap }
         ensures { out.new.items ≡ out.old.items ++ entry serial (kind_of self) ∷ [] }
     {
-        out.push_reserved(Entry {
-            serial,
-            kind: self.kind(),
-        });
+        match self {
+            PlainKind::Blank => out.push_reserved(Entry {
+                serial,
+                kind: EntryKind::Blank,
+            }),
+            PlainKind::Inert => out.push_reserved(Entry {
+                serial,
+                kind: EntryKind::Directive(DirectiveKind::Inert),
+            }),
+            PlainKind::Cfi => out.push_reserved(Entry {
+                serial,
+                kind: EntryKind::Directive(DirectiveKind::Cfi),
+            }),
+            PlainKind::Align { power, fill, max } => out.push_reserved(Entry {
+                serial,
+                kind: EntryKind::Directive(DirectiveKind::Align { power, fill, max }),
+            }),
+            PlainKind::Insn(insn) => out.push_reserved(Entry {
+                serial,
+                kind: EntryKind::Insn(Insn {
+                    op: insn.op,
+                    width: insn.width,
+                    a: insn.a.arg(),
+                    b: insn.b.arg(),
+                    c: insn.c.arg(),
+                }),
+            }),
+        }
     }
 }

@@ -92,7 +92,8 @@ fn deliver<O: Sink, N: Sink>(out: &mut O, notes: &mut N, prepared: Prepared) -> 
 /// `--mao=NOPKILL`, and tells on the notes which functions are kept as they are. A file that a cause keeps as it is
 /// is copied. On a status other than Fine and NotesFault the notes are offered one line in place of these.
 ///
-/// All that can want memory is done before the first byte is written.
+/// All that can want memory is done before the first byte is written. The memory of a file whose text was offered isn't given
+/// back: a caller that goes on keeps it.
 pub fn mao<S: Source, O: Sink, N: Sink>(
     alloc: Global,
     words: &[&str],
