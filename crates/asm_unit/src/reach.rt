@@ -2,15 +2,17 @@
 
 ghost use Rattle.std.specs.Prelude.{◌≡◌, ℕ, List, [], map, fold, is_some, IfOk, OnOk};
 ghost use Rattle.jump_tables.specs.Classes.{class_of, classes_of};
+ghost use Rattle.jump_tables.specs.EntryNames.{lent_name, names_in};
 ghost use Rattle.jump_tables.specs.Sections.{Section, section_after, is_debug, placed};
 ghost use Rattle.asm_unit.specs.Aliases.{Setting, settings, has_or_alias};
+ghost use Rattle.asm_unit.specs.Freeze.{reaching_names};
 ghost use Rattle.asm_unit.specs.Reach.{Marks, first_in, first_reaching};
 ghost use Rattle.asm_unit.specs.ReachSteps.{IsTableOf, no_marks, searching, visited, AreMarked, ReachedFrom, can_reach, reaching_kind};
 
 use crate::aliases::Aliases;
-use crate::reach_names::names_by;
+use crate::reach_names::{homing_names, offset_names, remaining_names};
 use insn_ir::{DirectiveKind, Entry, EntryKind, Name};
-use jump_tables::{EntryClass, Symbols, is_debug_name};
+use jump_tables::{EntryClass, EntryNames, Symbols, is_debug_name, names_of_list};
 use std::alloc::{AllocError, Global};
 use std::marker::Model;
 
@@ -184,6 +186,73 @@ impl Reached {
         self.follow(alloc, aliases, serial, queue)
     }
 
+    fn visit_lent<'a>(
+        &mut self,
+        alloc: Global,
+        queue: &mut Vec<&'a [u8]>,
+        serial: u32,
+        name: Option<&'a Name>,
+    ) -> Result<(), AllocError>
+        ensures { OnOk result (searching self.new (map (λ n. n.now) queue.new.items) ≡ fold (visited serial) (searching self.old (map (λ n. n.now) queue.old.items)) (lent_name name.entry)) }
+    {
+        match name {
+            Some(name) => self.visit(alloc, queue, serial, name.as_slice()),
+            None => Ok(()),
+        }
+    }
+
+    fn visit_names<'a>(
+        &mut self,
+        alloc: Global,
+        queue: &mut Vec<&'a [u8]>,
+        serial: u32,
+        names: EntryNames<'a>,
+    ) -> Result<(), AllocError>
+        ensures { OnOk result (searching self.new (map (λ n. n.now) queue.new.items) ≡ fold (visited serial) (searching self.old (map (λ n. n.now) queue.old.items)) (names_in names.entry)) }
+    {
+        self.visit_lent(alloc, queue, serial, names.first)?;
+        self.visit_lent(alloc, queue, serial, names.second)?;
+        self.visit_lent(alloc, queue, serial, names.third)?;
+        self.visit_targets(alloc, queue, serial, names.rest)
+    }
+
+    /// The same as [`Reached::reach_from`], for names that an entry lends.
+    fn reach_lent(
+        &mut self,
+        alloc: Global,
+        aliases: &Aliases,
+        serial: u32,
+        names: EntryNames,
+    ) -> Result<(), AllocError>
+        ensures { OnOk result ((ss : List Setting) → IsTableOf ss aliases.now → AreMarked ss self.old → ReachedFrom ss (names_in names.entry) serial self.old self.new) }
+    {
+        let mut queue = Vec::new(alloc);
+        self.visit_names(alloc, &mut queue, serial, names)?;
+        self.follow(alloc, aliases, serial, queue)
+    }
+
+    /// Marks what data reaches outside debug sections.
+    fn reach_data(
+        &mut self,
+        alloc: Global,
+        aliases: &Aliases,
+        entry: &Entry,
+    ) -> Result<(), AllocError>
+        ensures { OnOk result ((ss : List Setting) → IsTableOf ss aliases.now → AreMarked ss self.old → ReachedFrom ss (reaching_names entry.now.kind) entry.now.serial self.old self.new) }
+    {
+        match &entry.kind {
+            EntryKind::Directive(DirectiveKind::Words { cells, names, .. }) => {
+                let names = remaining_names(alloc, names.as_slice(), cells.as_slice())?;
+                self.reach_from(alloc, aliases, entry.serial, &names)
+            }
+            EntryKind::Directive(DirectiveKind::Bytes(list)) => {
+                let names = names_of_list(list.as_slice());
+                self.reach_lent(alloc, aliases, entry.serial, names)
+            }
+            _ => Ok(()),
+        }
+    }
+
     /// Marks what an entry reaches so and nothing has reached before; `debug` says whether it stands in a debug section.
     fn reach_by(
         &mut self,
@@ -200,11 +269,20 @@ impl Reached {
         if !can_reach(by, class) {
             return Ok(());
         }
-        let names = names_by(alloc, by, debug, &entry.kind)?;
-        if names.is_empty() {
-            return Ok(());
+        match by {
+            ReachBy::Homing => {
+                self.reach_lent(alloc, aliases, entry.serial, homing_names(&entry.kind))
+            }
+            ReachBy::Offset => {
+                self.reach_lent(alloc, aliases, entry.serial, offset_names(&entry.kind))
+            }
+            ReachBy::Data => {
+                if debug {
+                    return Ok(());
+                }
+                self.reach_data(alloc, aliases, entry)
+            }
         }
-        self.reach_from(alloc, aliases, entry.serial, &names)
     }
 
     /// What these names reach, without an entry that does: each name with the serial 0. The work is linear in the names and

@@ -1,7 +1,7 @@
 -- The uses of a name after an entry.
 use Rattle.std.proofs.Common.{◌≡◌, ℕ, ◌+◌, ◌<◌, arith, Bool, true, false, not, cond, List, [], ◌∷◌, ◌++◌, map, length, get_or, take, drop, replicate, Option, Some, None, refl, sym, ap, ◌∙◌}
 use Rattle.std.specs.Prelude.{bytes_eq, ◌||◌, ◌&&◌, filter, find, option_map}
-use Rattle.std.proofs.lemmas.List.{append-nil, append_assoc, map-append, take_more, take_all, drop_more, drop_all}
+use Rattle.std.proofs.lemmas.List.{append-nil, append_assoc, take_all, drop_more, drop_all}
 use Rattle.std.proofs.lemmas.List.Folds.{list_any-append}
 use Rattle.std.proofs.lemmas.Slice.Eq.{bytes_eq-Decides}
 use Rattle.insn_ir.specs.declared.entry.Entry.{Entry}
@@ -67,6 +67,25 @@ names_more e ms m ns us vs h =
     ∙ each_each _ _ ns us
     ∙ each_same _ _ (name_more e ms m) ns us
 
+-- the names of the entry, one list after another
+others_two : (x y j : Bool) (serial : ℕ) (u : Uses) → with_other (y && j) serial (with_other (x && j) serial u) ≡ with_other ((x || y) && j) serial u
+others_two true true true serial u = ap (λ o. record u { other_use = o }) (first_twice u.other_use serial)
+others_two true true false serial u = no_other serial (with_other false serial u)
+others_two true false true serial u = no_other serial (with_other true serial u)
+others_two true false false serial u = no_other serial (with_other false serial u)
+others_two false true true serial u = ap (with_other true serial) (no_other serial u)
+others_two false true false serial u = no_other serial (with_other false serial u)
+others_two false false j serial u = no_other serial (with_other false serial u)
+
+names_two : (e : Entry) (ms ks : List (List ℕ)) (n : List ℕ) (u : Uses) → named false e ks n (named false e ms n u) ≡ named false e (ms ++ ks) n u
+names_two e ms ks n u =
+    others_two (has n ms) (has n ks) (not (is_table_jump n e.kind)) e.serial u
+    ∙ ap (λ b. with_other (b && not (is_table_jump n e.kind)) e.serial u) (sym (list_any-append (bytes_eq n) ms ks))
+
+pub named_both : (e : Entry) (ms ks ns : List (List ℕ)) (us vs ws : List Uses) → vs ≡ for_each (named false e ms) ns us → ws ≡ for_each (named false e ks) ns vs
+    → ws ≡ for_each (named false e (ms ++ ks)) ns us
+named_both e ms ks ns us vs ws g h = h ∙ ap (for_each (named false e ks) ns) g ∙ each_each _ _ ns us ∙ each_same _ _ (names_two e ms ks) ns us
+
 pub nothing_named : (e : Entry) (n : List ℕ) (u : Uses) → named false e [] n u ≡ u
 nothing_named e n u = no_other e.serial u
 
@@ -92,10 +111,6 @@ pub none_noted : (debug : Bool) (e : Entry) (ns : List (List ℕ)) (us vs : List
     → vs ≡ for_each (noted debug e) ns us
 none_noted debug e ns us vs g h =
     h ∙ each_same _ _ (λ n u. sym (no_user e.serial (named debug e (names e.kind) n u)) ∙ ap (λ o. with_user (is_name n o) e.serial (named debug e (names e.kind) n u)) (sym g)) ns us
-
-pub map_take_more : {X : Type 0} {Y : Type 0} (f : X → Y) (xs : List X) (i : ℕ) (x : X) → i < length xs → x ≡ get_or xs i x → map f (take (i + 1) xs) ≡ map f (take i xs) ++ f x ∷ []
-map_take_more f xs i x l e =
-    ap (map f) (take_more xs i x l) ∙ map-append f (take i xs) (get_or xs i x ∷ []) ∙ ap (λ y. map f (take i xs) ++ f y ∷ []) (sym e)
 
 -- the uses of a name, and those of the entries that are left
 abbrev pub with_rest : List Placed → List ℕ → Uses → Uses

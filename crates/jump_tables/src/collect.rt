@@ -1,13 +1,13 @@
 // The uses of names: which entries jump by a table, and which use its label otherwise.
 
-ghost use Rattle.std.specs.Prelude.{◌≡◌, not, true, length, map, replicate, IfOk, OnOk};
+ghost use Rattle.std.specs.Prelude.{◌≡◌, not, true, false, length, map, replicate, IfOk, OnOk};
 ghost use Rattle.jump_tables.specs.Uses.{is_table_jump, names};
-ghost use Rattle.jump_tables.specs.Names.{has};
+ghost use Rattle.jump_tables.specs.EntryNames.{lent_name, names_in};
 ghost use Rattle.jump_tables.specs.Sections.{Section, is_debug, is_debug_name, section_after, placed};
 ghost use Rattle.jump_tables.specs.Collected.{for_each, at_name, with_other, with_user, named, noted, none_used, uses_of};
 
 use crate::symbols::Symbols;
-use crate::uses::{names_of, table_jump_of};
+use crate::uses::{EntryNames, names_of, table_jump_of};
 use insn_ir::{DirectiveKind, Entry, EntryKind, Name, SerialList};
 use std::alloc::{AllocError, Global};
 
@@ -88,28 +88,46 @@ fn note_user(
     }
 }
 
-// Debug sections use no table.
-fn note_others(
-    alloc: Global,
-    labels: &Symbols,
-    uses: &mut [Uses],
-    debug: bool,
-    entry: &Entry,
-) -> Result<(), AllocError>
+fn note_lent(labels: &Symbols, uses: &mut [Uses], entry: &Entry, name: Option<&Name>)
     requires { length uses.old ≡ length labels.now }
-    ensures { OnOk result (uses.new ≡ for_each (named debug entry.now (names entry.now.kind)) labels.now uses.old) }
+    ensures { uses.new ≡ for_each (named false entry.now (lent_name name.entry)) labels.now uses.old }
 {
-    if debug {
-        return Ok(());
-    }
-    for name in &names_of(alloc, &entry.kind)? {
+    if let Some(name) = name {
         note_other(labels, uses, entry, name);
     }
-    Ok(())
+}
+
+fn note_list(labels: &Symbols, uses: &mut [Uses], entry: &Entry, list: &[Name])
+    requires { length uses.old ≡ length labels.now }
+    ensures { uses.new ≡ for_each (named false entry.now list.now) labels.now uses.old }
+{
+    for name in list {
+        note_other(labels, uses, entry, name);
+    }
+}
+
+fn note_names(labels: &Symbols, uses: &mut [Uses], entry: &Entry, names: EntryNames)
+    requires { length uses.old ≡ length labels.now }
+    ensures { uses.new ≡ for_each (named false entry.now (names_in names.entry)) labels.now uses.old }
+{
+    note_lent(labels, uses, entry, names.first);
+    note_lent(labels, uses, entry, names.second);
+    note_lent(labels, uses, entry, names.third);
+    note_list(labels, uses, entry, names.rest);
+}
+
+// Debug sections use no table.
+fn note_others(labels: &Symbols, uses: &mut [Uses], debug: bool, entry: &Entry)
+    requires { length uses.old ≡ length labels.now }
+    ensures { uses.new ≡ for_each (named debug entry.now (names entry.now.kind)) labels.now uses.old }
+{
+    if debug {
+        return;
+    }
+    note_names(labels, uses, entry, names_of(&entry.kind));
 }
 
 fn note_entry(
-    alloc: Global,
     labels: &Symbols,
     uses: &mut [Uses],
     debug: bool,
@@ -118,7 +136,7 @@ fn note_entry(
     requires { length uses.old ≡ length labels.now }
     ensures { OnOk result (uses.new ≡ for_each (noted debug entry.now) labels.now uses.old) }
 {
-    note_others(alloc, labels, uses, debug, entry)?;
+    note_others(labels, uses, debug, entry);
     match table_jump_of(&entry.kind) {
         Some(table) => note_user(labels, uses, entry.serial, table),
         None => Ok(()),
@@ -149,7 +167,7 @@ pub fn uses_in(alloc: Global, labels: &Symbols, entries: &[Entry]) -> Result<Vec
     let mut debug = false;
     for entry in entries {
         debug = debug_after(debug, &entry.kind);
-        note_entry(alloc, labels, &mut uses, debug, entry)?;
+        note_entry(labels, &mut uses, debug, entry)?;
     }
     Ok(uses)
 }

@@ -13,7 +13,7 @@ pub use collect::is_debug_name;
 pub use find::{find_tables, find_tables_by_class};
 pub use symbols::Symbols;
 pub use table::{Table, Tables};
-pub use uses::{names_of, names_of_insn, symbol_of, table_jump_of};
+pub use uses::{EntryNames, names_of, names_of_insn, names_of_list, symbol_of, table_jump_of};
 
 #[cfg(test)]
 mod tests;

@@ -1,10 +1,10 @@
 // The symbols that an entry names.
 
-ghost use Rattle.std.specs.Prelude.{◌≡◌, ◌∷◌, ◌++◌, [], map, option_map, option_to_list, IfOk, OnOk};
+ghost use Rattle.std.specs.Prelude.{◌≡◌, map, option_map, option_to_list};
+ghost use Rattle.jump_tables.specs.EntryNames.{lent_name, names_in};
 ghost use Rattle.jump_tables.specs.Uses.{atoms_of_arg, names, insn_names, directive_names, plain_name, table_of_mem, table_jump};
 
 use insn_ir::{Arg, Atom, Base, DirectiveKind, Disp, EntryKind, Imm, Insn, Mem, Name, Op};
-use std::alloc::{AllocError, Global};
 
 /// The symbol of an operand, with its offset.
 pub fn symbol_of(arg: &Arg) -> Option<&Atom>
@@ -53,60 +53,79 @@ pub fn table_jump_of(kind: &EntryKind) -> Option<&Name>
     }
 }
 
+/// The symbols that an entry names, in order, as the entry lends them: at most three by themselves, and those of a list.
+#[derive(Clone, Copy)]
+pub struct EntryNames<'a> {
+    pub first: Option<&'a Name>,
+    pub second: Option<&'a Name>,
+    pub third: Option<&'a Name>,
+    pub rest: &'a [Name],
+}
+
+/// The symbol of an operand.
+fn name_of_arg(arg: &Arg) -> Option<&Name>
+    ensures { lent_name result ≡ map (λ a. a.name) (atoms_of_arg arg.now) }
+{
+    match symbol_of(arg) {
+        Some(atom) => Some(&atom.name),
+        None => None,
+    }
+}
+
 /// The symbols that an instruction names, in the order of its operands.
-pub fn names_of_insn(alloc: Global, insn: &Insn) -> Result<Vec<&Name>, AllocError>
-    ensures { IfOk result (λ v. map (λ n. n.now) v.items ≡ insn_names insn.now) }
+pub fn names_of_insn(insn: &Insn) -> EntryNames<'_>
+    ensures { names_in result ≡ insn_names insn.now }
 {
-    let mut names = Vec::new(alloc);
-    if let Some(atom) = symbol_of(&insn.a) {
-        names.push(&atom.name)?;
+    EntryNames {
+        first: name_of_arg(&insn.a),
+        second: name_of_arg(&insn.b),
+        third: name_of_arg(&insn.c),
+        rest: &[],
     }
-    if let Some(atom) = symbol_of(&insn.b) {
-        names.push(&atom.name)?;
-    }
-    if let Some(atom) = symbol_of(&insn.c) {
-        names.push(&atom.name)?;
-    }
-    Ok(names)
 }
 
-fn names_in_list(alloc: Global, list: &[Name]) -> Result<Vec<&Name>, AllocError>
-    ensures { IfOk result (λ v. map (λ n. n.now) v.items ≡ list.now) }
+/// The names of a list.
+pub fn names_of_list(list: &[Name]) -> EntryNames<'_>
+    ensures { names_in result ≡ list.now }
 {
-    let mut names = Vec::new(alloc);
-    for name in list {
-        names.push(name)?;
+    EntryNames {
+        first: None,
+        second: None,
+        third: None,
+        rest: list,
     }
-    Ok(names)
 }
 
-fn names_of_directive(alloc: Global, kind: &DirectiveKind) -> Result<Vec<&Name>, AllocError>
-    ensures { IfOk result (λ v. map (λ n. n.now) v.items ≡ directive_names kind.now) }
+fn names_of_directive(kind: &DirectiveKind) -> EntryNames<'_>
+    ensures { names_in result ≡ directive_names kind.now }
 {
-    let mut names = Vec::new(alloc);
     match kind {
-        DirectiveKind::Export(list) | DirectiveKind::Bytes(list) => {
-            return names_in_list(alloc, list.as_slice());
-        }
-        DirectiveKind::Words { names: list, .. } => return names_in_list(alloc, list.as_slice()),
-        DirectiveKind::FuncType(name) | DirectiveKind::FuncEnd(name) => names.push(name)?,
-        DirectiveKind::Alias(alias, of) => {
-            names.push(alias)?;
-            names.push(of)?;
-        }
-        _ => {}
+        DirectiveKind::Export(list) | DirectiveKind::Bytes(list) => names_of_list(list.as_slice()),
+        DirectiveKind::Words { names: list, .. } => names_of_list(list.as_slice()),
+        DirectiveKind::FuncType(name) | DirectiveKind::FuncEnd(name) => EntryNames {
+            first: Some(name),
+            second: None,
+            third: None,
+            rest: &[],
+        },
+        DirectiveKind::Alias(alias, of) => EntryNames {
+            first: Some(alias),
+            second: Some(of),
+            third: None,
+            rest: &[],
+        },
+        _ => names_of_list(&[]),
     }
-    Ok(names)
 }
 
 /// The symbols that an entry names; a label names none.
-pub fn names_of(alloc: Global, kind: &EntryKind) -> Result<Vec<&Name>, AllocError>
-    ensures { IfOk result (λ v. map (λ n. n.now) v.items ≡ names kind.now) }
+pub fn names_of(kind: &EntryKind) -> EntryNames<'_>
+    ensures { names_in result ≡ names kind.now }
 {
     match kind {
-        EntryKind::Insn(insn) => names_of_insn(alloc, insn),
-        EntryKind::Directive(directive) => names_of_directive(alloc, directive),
-        EntryKind::Opaque(list) => names_in_list(alloc, list.as_slice()),
-        _ => Ok(Vec::new(alloc)),
+        EntryKind::Insn(insn) => names_of_insn(insn),
+        EntryKind::Directive(directive) => names_of_directive(directive),
+        EntryKind::Opaque(list) => names_of_list(list.as_slice()),
+        _ => names_of_list(&[]),
     }
 }
