@@ -2,10 +2,10 @@
 
 ghost use Rattle.std.specs.Prelude.{◌≡◌, ◌<◌, ◌^◌, ◌++◌, ◌∷◌, [], length, Some, None, option_map, option_to_list, IfOk, OnOk};
 ghost use Rattle.asm_unit.specs.Layout.{ended, sizing, is_sized, typing, at_start, opening, owner_at, closing, first_align, arrived, counted, step_of, left_open, walked, walked_owners, bounds_from, owners_from};
-ghost use Rattle.asm_unit.specs.Walks.{section_of_ref, open_ref};
+ghost use Rattle.asm_unit.specs.Walks.{section_of_ref, open_ref, is_in_section, TellsSection};
 ghost use Rattle.asm_unit.specs.Functions.{parts, leads_kind, is_align_kind, pads_fully, full_power, is_end_kind};
 ghost use Rattle.jump_tables.specs.Classes.{class_of, classes_of};
-ghost use Rattle.jump_tables.specs.Sections.{section_after, placed};
+ghost use Rattle.jump_tables.specs.Sections.{Section, section_after, placed};
 ghost use Rattle.jump_tables.specs.Tables.{label_name};
 
 use insn_ir::{DirectiveKind, Entry, EntryKind, Name};
@@ -277,13 +277,49 @@ impl<'a> Walk<'a> {
         }
     }
 
+    // Whether the section in effect is that of the open function, if one is open.
+    fn is_in_section(&self, section: SectionAt<'a>) -> bool
+        ensures { result ≡ is_in_section self.now.inside (section_of_ref section.entry) }
+    {
+        match self.inside {
+            Some(open) => section.name == open.section,
+            None => true,
+        }
+    }
+
+    // The same at the next entry, where `before` tells it of the entry before: names of sections are compared only where
+    // a directive opens one.
+    fn stays_in_section(
+        &self,
+        before: bool,
+        section: SectionAt<'a>,
+        class: EntryClass,
+        kind: &EntryKind,
+    ) -> bool
+        requires { class ≡ class_of kind.now }
+        ensures { (s : Section) → TellsSection before self.now.inside s → section_of_ref section.entry ≡ section_after s kind.now → result ≡ is_in_section self.now.inside (section_of_ref section.entry) }
+    {
+        if matches!(class, EntryClass::Section) {
+            self.is_in_section(section)
+        } else {
+            self.inside.is_none() || before
+        }
+    }
+
     // The number of the function in whose code the next entry stands, or 0.
-    fn owner(&self, ended: bool, section: SectionAt<'a>, kind: &'a EntryKind) -> usize
-        requires { self.now.index < 2 ^ 63 }
+    fn owner(
+        &self,
+        ended: bool,
+        in_section: bool,
+        section: SectionAt<'a>,
+        kind: &'a EntryKind,
+    ) -> usize
+        requires index { self.now.index < 2 ^ 63 }
+        requires in_section { in_section ≡ is_in_section self.now.inside (section_of_ref section) }
         ensures { result ≡ owner_at self.now ended (section_of_ref section.entry) kind.now self.now.inside }
     {
         let is_inside = match self.inside {
-            Some(open) => open.section == section.name,
+            Some(_) => in_section,
             None => self.opening(ended, section, kind).is_some(),
         };
         if is_inside { self.count + 1 } else { 0 }
@@ -409,17 +445,19 @@ fn walk_on<'a>(
     bounds: &mut Vec<FunctionBounds>,
     owners: &mut Vec<usize>,
     ended: bool,
+    in_section: bool,
     section: SectionAt<'a>,
     class: EntryClass,
     kind: &'a EntryKind,
 ) -> Result<(), AllocError>
     requires index { walk.old.index < 2 ^ 63 }
+    requires in_section { in_section ≡ is_in_section walk.old.inside (section_of_ref section) }
     requires class { class ≡ class_of kind.now }
     ensures step { OnOk result (walk.new ≡ step_of walk.old ended (section_of_ref section.entry) kind.now) }
     ensures bounds { OnOk result (bounds.new.items ≡ bounds.old.items ++ closing walk.old kind.now walk.old.inside) }
     ensures owners { OnOk result (owners.new.items ≡ owners.old.items ++ owner_at walk.old ended (section_of_ref section.entry) kind.now walk.old.inside ∷ []) }
 {
-    owners.push(walk.owner(ended, section, kind))?;
+    owners.push(walk.owner(ended, in_section, section, kind))?;
     push_if(bounds, walk.closing(class, kind))?;
     walk.step(alloc, ended, section, class, kind)
 }
@@ -444,16 +482,19 @@ fn walked(
         name: b".text",
         code: true,
     };
+    let mut in_section = true;
     for i in 0..entries.len() {
         let kind = &entries[i].kind;
         let class = classes[i];
         section = section.from(class, kind);
+        in_section = walk.stays_in_section(in_section, section, class, kind);
         walk_on(
             alloc,
             &mut walk,
             &mut bounds,
             &mut owners,
             marks[i],
+            in_section,
             section,
             class,
             kind,
