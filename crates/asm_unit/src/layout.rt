@@ -9,7 +9,7 @@ ghost use Rattle.jump_tables.specs.Sections.{Section, section_after, placed};
 ghost use Rattle.jump_tables.specs.Tables.{label_name};
 
 use insn_ir::{DirectiveKind, Entry, EntryKind, Name};
-use jump_tables::{EntryClass, Symbols};
+use jump_tables::{BorrowedSymbols, EntryClass};
 use std::alloc::{AllocError, Global};
 use std::marker::Model;
 
@@ -33,11 +33,10 @@ pub fn label_name(kind: &EntryKind) -> Option<&Name>
     }
 }
 
-fn note_size(
-    alloc: Global,
-    sizes: &mut Symbols,
+fn note_size<'a>(
+    sizes: &mut BorrowedSymbols<'a>,
     class: EntryClass,
-    kind: &EntryKind,
+    kind: &'a EntryKind,
 ) -> Result<(), AllocError>
     requires { class ≡ class_of kind.now }
     ensures { OnOk result (sizes.new ≡ sizing sizes.old kind.now) }
@@ -46,12 +45,12 @@ fn note_size(
         return Ok(());
     }
     if let EntryKind::Directive(DirectiveKind::FuncEnd(name)) = kind {
-        sizes.add(alloc, name.as_slice())?;
+        sizes.add_new(name.as_slice())?;
     }
     Ok(())
 }
 
-fn is_ended(sizes: &Symbols, class: EntryClass, kind: &EntryKind) -> bool
+fn is_ended(sizes: &BorrowedSymbols, class: EntryClass, kind: &EntryKind) -> bool
     requires { class ≡ class_of kind.now }
     ensures { result ≡ is_sized sizes.now (label_name kind.now) }
 {
@@ -69,13 +68,13 @@ fn ended(alloc: Global, entries: &[Entry], classes: &[EntryClass]) -> Result<Vec
     requires { classes.now ≡ classes_of entries.now }
     ensures { IfOk result (λ v. v.items ≡ ended entries.now) }
 {
-    let mut sizes = Symbols::new(alloc);
+    let mut sizes = BorrowedSymbols::new(alloc);
     let mut marks = vec![in alloc; false; entries.len()]?;
     for i in (0..entries.len()).rev() {
         let kind = &entries[i].kind;
         let class = classes[i];
         marks[i] = is_ended(&sizes, class, kind);
-        note_size(alloc, &mut sizes, class, kind)?;
+        note_size(&mut sizes, class, kind)?;
     }
     Ok(marks)
 }
@@ -176,11 +175,10 @@ fn is_end(name: &[u8], class: EntryClass, kind: &EntryKind) -> bool
     }
 }
 
-fn note_type(
-    alloc: Global,
-    typed: &mut Symbols,
+fn note_type<'a>(
+    typed: &mut BorrowedSymbols<'a>,
     class: EntryClass,
-    kind: &EntryKind,
+    kind: &'a EntryKind,
 ) -> Result<(), AllocError>
     requires { class ≡ class_of kind.now }
     ensures { OnOk result (typed.new ≡ typing typed.old kind.now) }
@@ -189,7 +187,7 @@ fn note_type(
         return Ok(());
     }
     if let EntryKind::Directive(DirectiveKind::FuncType(name)) = kind {
-        typed.add(alloc, name.as_slice())?;
+        typed.add_new(name.as_slice())?;
     }
     Ok(())
 }
@@ -217,7 +215,7 @@ pub struct Opened<'a> {
 // A walk over the entries that finds the functions.
 #[derive(Drop)]
 pub struct Walk<'a> {
-    typed: Symbols,
+    typed: BorrowedSymbols<'a>,
     inside: Option<Opened<'a>>,
     index: usize,
     count: usize,
@@ -242,7 +240,7 @@ impl<'a> Walk<'a> {
         ensures { result ≡ at_start }
     {
         Walk {
-            typed: Symbols::new(alloc),
+            typed: BorrowedSymbols::new(alloc),
             inside: None,
             index: 0,
             count: 0,
@@ -380,17 +378,12 @@ impl<'a> Walk<'a> {
         }
     }
 
-    fn count(
-        &mut self,
-        alloc: Global,
-        class: EntryClass,
-        kind: &EntryKind,
-    ) -> Result<(), AllocError>
+    fn count(&mut self, class: EntryClass, kind: &'a EntryKind) -> Result<(), AllocError>
         requires index { self.old.index < 2 ^ 63 }
         requires class { class ≡ class_of kind.now }
         ensures { OnOk result (self.new ≡ counted self.old kind.now) }
     {
-        note_type(alloc, &mut self.typed, class, kind)?;
+        note_type(&mut self.typed, class, kind)?;
         self.index += 1;
         Ok(())
     }
@@ -398,7 +391,6 @@ impl<'a> Walk<'a> {
     // Past the next entry.
     fn step(
         &mut self,
-        alloc: Global,
         ended: bool,
         section: SectionAt<'a>,
         class: EntryClass,
@@ -410,7 +402,7 @@ impl<'a> Walk<'a> {
     {
         let Some(open) = self.inside else {
             self.arrive(ended, section, kind);
-            return self.count(alloc, class, kind);
+            return self.count(class, kind);
         };
         if is_end(open.name, class, kind) {
             self.inside = None;
@@ -418,7 +410,7 @@ impl<'a> Walk<'a> {
             self.count += 1;
             return Ok(());
         }
-        self.count(alloc, class, kind)
+        self.count(class, kind)
     }
 }
 
@@ -440,7 +432,6 @@ fn push_if(bounds: &mut Vec<FunctionBounds>, more: Option<FunctionBounds>) -> Re
 
 // One entry of the walk: its owner, the function that it closes, and the step.
 fn walk_on<'a>(
-    alloc: Global,
     walk: &mut Walk<'a>,
     bounds: &mut Vec<FunctionBounds>,
     owners: &mut Vec<usize>,
@@ -459,7 +450,7 @@ fn walk_on<'a>(
 {
     owners.push(walk.owner(ended, in_section, section, kind))?;
     push_if(bounds, walk.closing(class, kind))?;
-    walk.step(alloc, ended, section, class, kind)
+    walk.step(ended, section, class, kind)
 }
 
 /// Finds the functions of a file in one walk.
@@ -489,7 +480,6 @@ fn walked(
         section = section.from(class, kind);
         in_section = walk.stays_in_section(in_section, section, class, kind);
         walk_on(
-            alloc,
             &mut walk,
             &mut bounds,
             &mut owners,

@@ -164,3 +164,8 @@ pub place_at_key : {X : Type 0} (name : X → List ℕ) (xs : List X) (k : ℕ) 
 place_at_key name xs k o x n false d e t f = tt
 place_at_key name xs k o x n true d e t f =
     place_at (map name xs) k n d (slice_get-map name xs k ∙ ap (option_map name) (sym e ∙ t) ∙ ap Some ((bytes_eq-Decides (name x) n).0 (sym f)))
+
+-- a name whose place is known is there
+pub there_at : (n : List ℕ) (ns : List (List ℕ)) (k : ℕ) (b : Bool) → OnTrue b (place_of n ns ≡ Some k) → OnTrue b (has n ns ≡ true)
+there_at n ns k false h = tt
+there_at n ns k true h = sym (some_place n ns) ∙ ap is_some h

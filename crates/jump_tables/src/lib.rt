@@ -1,6 +1,7 @@
 //! The jump tables of a file, and what uses them.
 #![tactic(auto)]
 
+mod borrowed_symbols;
 mod class;
 mod collect;
 mod find;
@@ -8,6 +9,7 @@ mod symbols;
 mod table;
 mod uses;
 
+pub use borrowed_symbols::BorrowedSymbols;
 pub use class::{EntryClass, class_of, classes_of};
 pub use collect::is_debug_name;
 pub use find::{find_tables, find_tables_by_class};

@@ -94,12 +94,16 @@ impl Symbols {
             .is_some()
     }
 
-    /// The number of the symbol, which comes last where it is new. Where memory is wanting nothing changes.
+    /// The number of the symbol, which comes last where it is new. One that is there is not copied. Where memory is wanting
+    /// nothing changes.
     pub fn add(&mut self, alloc: Global, name: &[u8]) -> Result<usize, AllocError>
         ensures added { OnOk result (self.new ≡ with_name self.old name.now) }
         ensures number { IfOk result (λ k. place_of name.now self.new ≡ Some k) }
         ensures err { OnErr result (self.new ≡ self.old) }
     {
+        if let Some(number) = self.number_of(name) {
+            return Ok(number);
+        }
         let (number, _) = self.set.insert_full(Vec::from_slice(alloc, name)?)?;
         Ok(number)
     }
