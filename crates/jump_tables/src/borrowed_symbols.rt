@@ -4,6 +4,7 @@ ghost use Rattle.std.specs.Prelude.{◌≡◌, not, [], OnOk, OnErr, IfOk, Some,
 ghost use Rattle.std.specs.Bool.{OnTrue};
 ghost use Rattle.jump_tables.specs.Names.{has, with_name, place_of};
 
+use crate::keys::BorrowedKey;
 use indexmap::IndexSet;
 use std::alloc::{AllocError, Global};
 use std::marker::Model;
@@ -11,7 +12,7 @@ use std::marker::Model;
 /// A list of different symbols, as [`crate::Symbols`], for symbols that live elsewhere: none of them is copied.
 #[derive(Drop)]
 pub struct BorrowedSymbols<'a> {
-    set: IndexSet<&'a [u8]>,
+    set: IndexSet<BorrowedKey<'a>>,
 }
 
 impl<'a> Model for BorrowedSymbols<'a> {
@@ -20,9 +21,9 @@ impl<'a> Model for BorrowedSymbols<'a> {
 
     ghost Value = { List (List ℕ) };
 
-    ghost view = { λ s. map (λ k. k.now) s.set.keys };
+    ghost view = { λ s. map (λ k. k.bytes.now) s.set.keys };
 
-    ghost invariant = { λ s. AreDistinct (map (λ k. k.now) s.set.keys) };
+    ghost invariant = { λ s. AreDistinct (map (λ k. k.bytes.now) s.set.keys) };
 }
 
 impl<'a> BorrowedSymbols<'a> {
@@ -43,7 +44,7 @@ impl<'a> BorrowedSymbols<'a> {
         if self.set.is_empty() {
             return None;
         }
-        self.set.get_index_of(name)
+        self.set.get_index_of(BorrowedKey { bytes: name })
     }
 
     // Whether this is the last symbol.
@@ -51,7 +52,7 @@ impl<'a> BorrowedSymbols<'a> {
         ensures { OnTrue result (has name.now self.now ≡ true) }
     {
         match self.set.last() {
-            Some(symbol) => *symbol == name,
+            Some(symbol) => symbol.bytes == name,
             None => false,
         }
     }
@@ -69,7 +70,7 @@ impl<'a> BorrowedSymbols<'a> {
         ensures new { IfOk result (λ b. b ≡ not (has name.now self.old)) }
         ensures err { OnErr result (self.new ≡ self.old) }
     {
-        let (_, is_new) = self.set.insert_full(name)?;
+        let (_, is_new) = self.set.insert_full(BorrowedKey { bytes: name })?;
         Ok(is_new)
     }
 }

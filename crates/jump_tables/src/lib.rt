@@ -5,6 +5,7 @@ mod borrowed_symbols;
 mod class;
 mod collect;
 mod find;
+mod keys;
 mod symbols;
 mod table;
 mod uses;

@@ -4,6 +4,7 @@ ghost use Rattle.std.specs.Prelude.{◌≡◌, not, [], OnOk, OnErr, IfOk, Some,
 ghost use Rattle.std.specs.Bool.{OnTrue};
 ghost use Rattle.jump_tables.specs.Names.{has, with_name, place_of, AreDistinct};
 
+use crate::keys::{BorrowedKey, OwnedKey};
 use indexmap::IndexSet;
 use std::alloc::{AllocError, Global};
 use std::marker::Model;
@@ -11,7 +12,7 @@ use std::marker::Model;
 /// A list of different symbols, in which a symbol is found by a hash. Its place in the list is its number.
 #[derive(Drop)]
 pub struct Symbols {
-    set: IndexSet<Vec<u8>>,
+    set: IndexSet<OwnedKey>,
 }
 
 impl Model for Symbols {
@@ -20,9 +21,17 @@ impl Model for Symbols {
 
     ghost Value = { List (List ℕ) };
 
-    ghost view = { λ s. map (λ k. k.items) s.set.keys };
+    ghost view = { λ s. map (λ k. k.bytes.items) s.set.keys };
 
-    ghost invariant = { λ s. AreDistinct (map (λ k. k.items) s.set.keys) };
+    ghost invariant = { λ s. AreDistinct (map (λ k. k.bytes.items) s.set.keys) };
+}
+
+fn owned(alloc: Global, name: &[u8]) -> Result<OwnedKey, AllocError>
+    ensures { IfOk result (λ k. k.bytes.items ≡ name.now) }
+{
+    Ok(OwnedKey {
+        bytes: Vec::from_slice(alloc, name)?,
+    })
 }
 
 impl Symbols {
@@ -51,7 +60,7 @@ impl Symbols {
         if self.set.is_empty() {
             return None;
         }
-        self.set.get_index_of(name)
+        self.set.get_index_of(BorrowedKey { bytes: name })
     }
 
     // Whether this is the symbol of the number.
@@ -60,7 +69,7 @@ impl Symbols {
         ensures within { OnTrue result (number < length self.now) }
     {
         match self.set.get_index(number) {
-            Some(symbol) => symbol.as_slice() == name,
+            Some(symbol) => symbol.bytes.as_slice() == name,
             None => false,
         }
     }
@@ -104,7 +113,7 @@ impl Symbols {
         if let Some(number) = self.number_of(name) {
             return Ok(number);
         }
-        let (number, _) = self.set.insert_full(Vec::from_slice(alloc, name)?)?;
+        let (number, _) = self.set.insert_full(owned(alloc, name)?)?;
         Ok(number)
     }
 
@@ -115,7 +124,7 @@ impl Symbols {
         ensures new { IfOk result (λ b. b ≡ not (has name.now self.old)) }
         ensures err { OnErr result (self.new ≡ self.old) }
     {
-        let (_, is_new) = self.set.insert_full(Vec::from_slice(alloc, name)?)?;
+        let (_, is_new) = self.set.insert_full(owned(alloc, name)?)?;
         Ok(is_new)
     }
 }

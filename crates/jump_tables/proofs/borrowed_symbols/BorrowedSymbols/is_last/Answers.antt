@@ -10,5 +10,5 @@ returns-in-Some c =
     let keys = c.self.inside.set.keys in
     let n = c.args.name.now in
     subst (λ ns. OnTrue c.eq.result (has n ns ≡ true)) c.self.view_is
-    (there_at n (map (λ k. k.now) keys) (length keys - 1) c.eq.result
-    (place_at_key (λ k. k.now) keys (length keys - 1) (option_copied c.last.result) c.in-Some.symbol.now n c.eq.result c.self.invariant c.last.ensures.key (ap option_copied c.in-Some.is) c.eq.ensures))
+    (there_at n (map (λ k. k.bytes.now) keys) (length keys - 1) c.eq.result
+    (place_at_key (λ k. k.bytes.now) keys (length keys - 1) (option_copied c.last.result) c.in-Some.symbol.now n c.eq.result c.self.invariant c.last.ensures.key (ap option_copied c.in-Some.is) c.eq.ensures))

@@ -6,7 +6,7 @@ use Rattle.jump_tables.proofs.borrowed_symbols.BorrowedSymbols.number_of.Goals a
 pub returns-clause-found : goal.returns-clause-found
 returns-clause-found c =
     c.get_index_of.ensures.index
-    ∙ position_is (λ k. k.now) c.args.name.now c.self.inside.set.keys
+    ∙ position_is (λ k. k.bytes.now) c.args.name.now c.self.inside.set.keys
     ∙ ap (place_of c.args.name.now) c.self.view_is
 
 pub returns-clause-within : goal.returns-clause-within

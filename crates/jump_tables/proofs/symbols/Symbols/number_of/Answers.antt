@@ -6,7 +6,7 @@ use Rattle.jump_tables.proofs.symbols.Symbols.number_of.Goals as goal
 pub returns-clause-found : goal.returns-clause-found
 returns-clause-found c =
     c.get_index_of.ensures.index
-    ∙ position_is (λ k. k.items) c.args.name.now c.self.inside.set.keys
+    ∙ position_is (λ k. k.bytes.items) c.args.name.now c.self.inside.set.keys
     ∙ ap (place_of c.args.name.now) c.self.view_is
 
 pub returns-clause-within : goal.returns-clause-within
