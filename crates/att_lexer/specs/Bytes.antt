@@ -15,6 +15,9 @@ is_letter b = (nat_le 65 b && nat_le b 90) || (nat_le 97 b && nat_le b 122)
 unfoldable pub is_symbol_byte : ℕ → Bool
 is_symbol_byte b = is_letter b || is_digit b || b == 95 || b == 46 || b == 36 || nat_le 128 b
 
+abbrev pub is_no_symbol_byte : ℕ → Bool
+is_no_symbol_byte b = not (is_symbol_byte b)
+
 -- what a symbol may begin with: a symbol byte that is no digit and no `$`
 unfoldable pub is_symbol_start : ℕ → Bool
 is_symbol_start b = is_symbol_byte b && not (is_digit b) && not (b == 36)

@@ -2,9 +2,9 @@
 ghost use Rattle.std.specs.Prelude.{◌≡◌, ◌+◌, ◌≤◌, length, drop, map};
 ghost use Rattle.std.specs.List.{prefix_len};
 ghost use Rattle.std.specs.Simd.Lanes.{mask_l};
-ghost use Rattle.att_lexer.specs.Bytes.{is_stop, is_calm, is_one_of, is_none_of};
+ghost use Rattle.att_lexer.specs.Bytes.{is_stop, is_calm, is_one_of, is_none_of, is_symbol_byte, is_no_symbol_byte};
 
-use crate::bytes::is_stop;
+use crate::bytes::{is_stop, is_symbol_byte};
 use std::simd::prelude::*;
 
 // Which lanes are stops.
@@ -31,6 +31,21 @@ fn hits(v: u8x16, a: u8, b: u8, c: u8) -> u64
     (v.simd_eq(u8x16::splat(a))
         | v.simd_eq(u8x16::splat(b))
         | v.simd_eq(u8x16::splat(c))).to_bitmask()
+}
+
+// Which lanes are no symbol bytes: no letters, no digits, and none of the few others.
+#[inline(always)]
+fn breaks(v: u8x16) -> u64
+    ensures { result ≡ mask_l (map is_no_symbol_byte v) }
+{
+    let from_a = (v | u8x16::splat(0x20)) - u8x16::splat(b'a');
+    let from_0 = v - u8x16::splat(b'0');
+    (from_a.simd_ge(u8x16::splat(26))
+        & from_0.simd_ge(u8x16::splat(10))
+        & v.simd_ne(u8x16::splat(b'_'))
+        & v.simd_ne(u8x16::splat(b'.'))
+        & v.simd_ne(u8x16::splat(b'$'))
+        & v.simd_lt(u8x16::splat(0x80))).to_bitmask()
 }
 
 fn stop_in_tail(text: &[u8], from: usize) -> usize
@@ -89,4 +104,29 @@ pub fn hit_from(text: &[u8], from: usize, a: u8, b: u8, c: u8) -> usize
         i += 16;
     }
     hit_in_tail(text, i, a, b, c)
+}
+
+// How many symbol bytes stand in front, byte by byte.
+fn symbols_in_tail(bytes: &[u8]) -> usize
+    ensures value { result ≡ prefix_len is_symbol_byte bytes.now }
+    ensures bound { result ≤ length bytes.now }
+{
+    bytes.iter().take_while(|b| is_symbol_byte(**b)).count()
+}
+
+/// How many symbol bytes stand in front.
+#[inline]
+pub fn symbol_run(bytes: &[u8]) -> usize
+    ensures value { result ≡ prefix_len is_symbol_byte bytes.now }
+    ensures bound { result ≤ length bytes.now }
+{
+    let mut i = 0;
+    while bytes.len() - i >= 16 {
+        let found = breaks(u8x16::from_slice(&bytes[i..]));
+        if found != 0 {
+            return i + found.trailing_zeros() as usize;
+        }
+        i += 16;
+    }
+    i + symbols_in_tail(&bytes[i..])
 }

@@ -5,6 +5,7 @@ ghost use Rattle.att_lexer.specs.Bytes.{is_symbol_byte};
 ghost use Rattle.att_lexer.specs.Tokens.{digit_of, number_in, number_of, run_token, text_len, token_of, ends_tokens, tokens_from, is_first_label, counted, tokens_of, AreInOrder};
 
 use crate::bytes::{is_blank, is_digit, is_symbol_byte};
+use crate::lanes::symbol_run;
 use crate::scan::is_label_front;
 use std::alloc::{AllocError, Global};
 use std::marker::Model;
@@ -137,14 +138,6 @@ fn number_of(run: &[u8]) -> Option<u64>
     }
 }
 
-// How many symbol bytes stand in front.
-fn run_len(bytes: &[u8]) -> usize
-    ensures value { result ≡ prefix_len is_symbol_byte bytes.now }
-    ensures bound { result ≤ length bytes.now }
-{
-    bytes.iter().take_while(|b| is_symbol_byte(**b)).count()
-}
-
 // How many bytes of a string follow its first quote.
 fn text_len(bytes: &[u8]) -> usize
     ensures value { result ≡ text_len false bytes.now }
@@ -227,7 +220,7 @@ fn token_at(start: u32, rest: &[u8]) -> Token
             value: 0,
         }
     } else if is_symbol_byte(first) && first != b'$' {
-        run_token(start, &rest[..run_len(rest)])
+        run_token(start, &rest[..symbol_run(rest)])
     } else {
         Token {
             kind: TokenKind::Mark,
