@@ -359,3 +359,16 @@ fn finds_symbols_near_any_number(rt: HostRuntime) -> Result<(), Fail> {
     assert!(rt; !symbols.has_late(b"i"));
     Ok(())
 }
+
+#[test]
+fn borrows_symbols(rt: HostRuntime) -> Result<(), Fail> {
+    let mut symbols = BorrowedSymbols::new(rt.alloc());
+    assert!(rt; !symbols.has_late(b"f"));
+    assert!(rt; symbols.add_new(b"f")?);
+    assert!(rt; symbols.add_new(b"g")?);
+    assert!(rt; !symbols.add_new(b"f")?);
+    assert_eq!(rt; symbols.number_of(b"g"), Some(1));
+    assert!(rt; symbols.has_late(b"f"));
+    assert!(rt; symbols.has_late(b"g"));
+    Ok(())
+}
