@@ -95,14 +95,6 @@ impl Symbols {
         self.number_of(name).is_some()
     }
 
-    /// Whether the symbol is among them, where the last one is looked at first.
-    pub fn has_late(&self, name: &[u8]) -> bool
-        ensures { result ≡ has name.now self.now }
-    {
-        self.number_near(name, self.len().saturating_sub(1))
-            .is_some()
-    }
-
     /// The number of the symbol, which comes last where it is new. One that is there is not copied. Where memory is wanting
     /// nothing changes.
     pub fn add(&mut self, alloc: Global, name: &[u8]) -> Result<usize, AllocError>

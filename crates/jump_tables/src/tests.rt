@@ -354,9 +354,6 @@ fn finds_symbols_near_any_number(rt: HostRuntime) -> Result<(), Fail> {
         assert_eq!(rt; symbols.number_near(b"h", near), Some(2));
         assert_eq!(rt; symbols.number_near(b"i", near), None);
     }
-    assert!(rt; symbols.has_late(b"h"));
-    assert!(rt; symbols.has_late(b"f"));
-    assert!(rt; !symbols.has_late(b"i"));
     Ok(())
 }
 
