@@ -60,7 +60,7 @@ fn put_imm<'a>(out: &mut Fragments<'a>, imm: &'a Imm)
 {
     match imm {
         Imm::Num(n) => put_number(out, *n),
-        Imm::Sym(atom) => put_atom(out, atom),
+        Imm::Sym(atom) => put_atom(out, atom.get()),
     }
 }
 
@@ -71,7 +71,7 @@ fn put_disp<'a>(out: &mut Fragments<'a>, disp: &'a Disp)
 {
     match disp {
         Disp::Num(n) => put_number(out, *n as i64),
-        Disp::Sym(atom) => put_atom(out, atom),
+        Disp::Sym(atom) => put_atom(out, atom.get()),
     }
 }
 
@@ -84,7 +84,7 @@ fn put_front<'a>(out: &mut Fragments<'a>, disp: &'a Disp)
     match disp {
         Disp::Num(0) => {}
         Disp::Num(n) => put_number(out, *n as i64),
-        Disp::Sym(atom) => put_atom(out, atom),
+        Disp::Sym(atom) => put_atom(out, atom.get()),
     }
 }
 
@@ -171,6 +171,6 @@ pub(crate) fn put_arg<'a>(out: &mut Fragments<'a>, width: Width, arg: &'a Arg)
             put_imm(out, imm);
         }
         Arg::Mem(mem) => put_mem(out, mem),
-        Arg::Code(atom) => put_atom(out, atom),
+        Arg::Code(atom) => put_atom(out, atom.get()),
     }
 }

@@ -8,7 +8,7 @@ ghost use Rattle.att_grammar.specs.declared.syntax.Operands.{Operands};
 ghost use Rattle.att_grammar.specs.Instructions.{atom_of, disp_of, mem_of, kept, imm_of, arg_of, is_shift, is_product, insn, insn_of};
 
 use att_grammar::{Address, Displacement, Operand, Operands, Symbol, Word};
-use insn_ir::{Arg, Atom, Disp, Entry, EntryKind, Imm, Insn, Mem, Name, Op, Width};
+use insn_ir::{Arg, Atom, BoxedAtom, Disp, Entry, EntryKind, Imm, Insn, Mem, Name, Op, Width};
 use std::alloc::{AllocError, Global};
 
 fn specifier(alloc: Global, spec: &Option<Word>) -> Result<Option<Name>, AllocError>
@@ -21,14 +21,15 @@ fn specifier(alloc: Global, spec: &Option<Word>) -> Result<Option<Name>, AllocEr
 }
 
 /// A symbol with an offset.
-pub fn atom(alloc: Global, symbol: &Symbol, offset: i64) -> Result<Atom, AllocError>
+pub fn atom(alloc: Global, symbol: &Symbol, offset: i64) -> Result<BoxedAtom, AllocError>
     ensures { IfOk result (λ atom. atom ≡ atom_of symbol.now offset) }
 {
-    Ok(Atom {
+    let atom = Atom {
         name: Name::from_slice(alloc, symbol.name.bytes())?,
         spec: specifier(alloc, &symbol.spec)?,
         offset,
-    })
+    };
+    BoxedAtom::new(alloc, atom)
 }
 
 fn disp(alloc: Global, disp: &Displacement) -> Result<Disp, AllocError>

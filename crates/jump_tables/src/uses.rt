@@ -1,6 +1,7 @@
 // The symbols that an entry names.
 
 ghost use Rattle.std.specs.Prelude.{◌≡◌, map, option_map, option_to_list};
+ghost use Rattle.insn_ir.specs.declared.insn.Disp.{Disp};
 ghost use Rattle.jump_tables.specs.EntryNames.{lent_name, names_in};
 ghost use Rattle.jump_tables.specs.Uses.{atoms_of_arg, names, insn_names, directive_names, plain_name, table_of_mem, table_jump};
 
@@ -11,13 +12,24 @@ pub fn symbol_of(arg: &Arg) -> Option<&Atom>
     ensures { option_to_list (option_map (λ a. a.now) result) ≡ atoms_of_arg arg.now }
 {
     match arg {
-        Arg::Imm(Imm::Sym(atom)) => Some(atom),
+        Arg::Imm(Imm::Sym(atom)) => Some(atom.get()),
         Arg::Mem(mem) => match &mem.disp {
-            Disp::Sym(atom) => Some(atom),
+            Disp::Sym(atom) => Some(atom.get()),
             Disp::Num(_) => None,
         },
-        Arg::Code(atom) => Some(atom),
+        Arg::Code(atom) => Some(atom.get()),
         _ => None,
+    }
+}
+
+// The name of a symbol that stands by itself.
+fn lone_name(atom: &Atom) -> Option<&Name>
+    ensures { option_map (λ n. n.now) result ≡ plain_name (Disp.Sym atom.now) }
+{
+    if atom.spec.is_none() && atom.offset == 0 {
+        Some(&atom.name)
+    } else {
+        None
     }
 }
 
@@ -25,8 +37,8 @@ fn plain_name_of(disp: &Disp) -> Option<&Name>
     ensures { option_map (λ n. n.now) result ≡ plain_name disp.now }
 {
     match disp {
-        Disp::Sym(atom) if atom.spec.is_none() && atom.offset == 0 => Some(&atom.name),
-        _ => None,
+        Disp::Sym(atom) => lone_name(atom.get()),
+        Disp::Num(_) => None,
     }
 }
 
