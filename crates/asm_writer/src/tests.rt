@@ -2,7 +2,7 @@ ghost use Rattle.std.specs.Prelude.{◌≡◌, false, codes, IfOk, Some, None, i
 ghost use Rattle.insn_ir.specs.Profile.{IsInstruction};
 
 use super::*;
-use insn_ir::{Arg, Atom, Base, Cond, Disp, Imm, Insn, Mem, Name, Op, Reg, Width};
+use insn_ir::{Arg, Atom, Base, BoxedAtom, Cond, Disp, Imm, Insn, Mem, Name, Op, Reg, Width};
 use std::alloc::{AllocError, Global};
 use std::process::Abort;
 use std::test::Fail;
@@ -58,7 +58,12 @@ fn nothing(op: Op) -> Insn
 }
 
 // A name, perhaps with the specifier `tpoff`, and an offset.
-fn symbol(alloc: Global, name: &[u8], specified: bool, offset: i64) -> Result<Atom, AllocError>
+fn symbol(
+    alloc: Global,
+    name: &[u8],
+    specified: bool,
+    offset: i64,
+) -> Result<BoxedAtom, AllocError>
     ensures { IfOk result (λ a. a ≡ record { name = name.now; spec = (if specified then Some (codes "tpoff") else None); offset = offset }) }
 {
     let spec = if specified {
@@ -66,11 +71,12 @@ fn symbol(alloc: Global, name: &[u8], specified: bool, offset: i64) -> Result<At
     } else {
         None
     };
-    Ok(Atom {
+    let atom = Atom {
         name: Name::from_slice(alloc, name)?,
         spec,
         offset,
-    })
+    };
+    BoxedAtom::new(alloc, atom)
 }
 
 #[test]

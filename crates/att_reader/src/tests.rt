@@ -18,7 +18,7 @@ fn push_atom(alloc: Global, out: &mut Vec<u8>, atom: &Atom) -> Result<(), AllocE
 fn push_disp(alloc: Global, out: &mut Vec<u8>, disp: &Disp) -> Result<(), AllocError> {
     match disp {
         Disp::Num(n) => out.extend_from_slice(format!(in alloc; "{n}")?.as_bytes()),
-        Disp::Sym(atom) => push_atom(alloc, out, atom),
+        Disp::Sym(atom) => push_atom(alloc, out, atom.get()),
     }
 }
 
@@ -46,7 +46,7 @@ fn push_imm(alloc: Global, out: &mut Vec<u8>, imm: &Imm) -> Result<(), AllocErro
         Imm::Num(n) => out.extend_from_slice(format!(in alloc; " ${n}")?.as_bytes()),
         Imm::Sym(atom) => {
             out.extend_from_slice(b" $")?;
-            push_atom(alloc, out, atom)
+            push_atom(alloc, out, atom.get())
         }
     }
 }
@@ -62,7 +62,7 @@ fn push_arg(alloc: Global, out: &mut Vec<u8>, arg: &Arg) -> Result<(), AllocErro
         }
         Arg::Code(atom) => {
             out.extend_from_slice(b" =")?;
-            push_atom(alloc, out, atom)
+            push_atom(alloc, out, atom.get())
         }
     }
 }

@@ -1,7 +1,7 @@
 use super::*;
 use insn_ir::{
-    Arg, Atom, Base, Cell, CellList, DirectiveKind, Disp, Entry, EntryKind, Insn, Mem, Name,
-    NameList, Op, Reg, Width,
+    Arg, Atom, Base, BoxedAtom, Cell, CellList, DirectiveKind, Disp, Entry, EntryKind, Insn, Mem,
+    Name, NameList, Op, Reg, Width,
 };
 use std::alloc::{AllocError, Global};
 use std::fmt::Write;
@@ -62,13 +62,14 @@ fn operand(
     index: Option<Reg>,
     scale: u8,
 ) -> Result<Arg, AllocError> {
+    let atom = Atom {
+        name: name_of(alloc, table)?,
+        spec: None,
+        offset: 0,
+    };
     Ok(Arg::Mem(Mem {
         fs: false,
-        disp: Disp::Sym(Atom {
-            name: name_of(alloc, table)?,
-            spec: None,
-            offset: 0,
-        }),
+        disp: Disp::Sym(BoxedAtom::new(alloc, atom)?),
         base,
         index,
         scale,
