@@ -1,0 +1,10 @@
+pub mod Cases
+pub mod MovesCases
+pub mod MemoryCases
+pub mod SumsCases
+pub mod LogicCases
+pub mod ProductsCases
+pub mod UndefinedCases
+pub mod ConditionsCases
+pub mod RunsCases
+pub mod ProcessorSteps
