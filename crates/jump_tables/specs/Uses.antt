@@ -1,15 +1,14 @@
 -- The symbols that an entry names.
-use Rattle.std.specs.Prelude.{ℕ, Bool, true, false, not, ◌&&◌, List, [], ◌∷◌, ◌++◌, map, Option, Some, None, is_some, is_none, nat_eq, nat_abs, bytes_eq, if◌then◌else◌}
+use Rattle.std.specs.Prelude.{ℕ, Bool, true, false, List, [], ◌∷◌, ◌++◌, map, Option, Some, None, bytes_eq, if◌then◌else◌}
 use Rattle.insn_ir.specs.declared.op.Op.{Op}
 use Rattle.insn_ir.specs.declared.insn.Atom.{Atom}
 use Rattle.insn_ir.specs.declared.insn.Disp.{Disp}
 use Rattle.insn_ir.specs.declared.insn.Imm.{Imm}
-use Rattle.insn_ir.specs.declared.insn.Base.{Base}
-use Rattle.insn_ir.specs.declared.insn.Mem.{Mem}
 use Rattle.insn_ir.specs.declared.insn.Arg.{Arg}
 use Rattle.insn_ir.specs.declared.insn.Insn.{Insn}
 use Rattle.insn_ir.specs.declared.entry.DirectiveKind.{DirectiveKind}
 use Rattle.insn_ir.specs.declared.entry.EntryKind.{EntryKind}
+use Rattle.insn_ir.specs.Jumps.{table_of_arg}
 
 abbrev pub atoms_of_disp : Disp → List Atom
 atoms_of_disp (Disp.Num n) = []
@@ -48,24 +47,6 @@ names (EntryKind.Insn i) = insn_names i
 names (EntryKind.Directive d) = directive_names d
 names (EntryKind.Opaque ns) = ns
 names _ = []
-
-abbrev pub is_absent : Base → Bool
-is_absent Base.Absent = true
-is_absent _ = false
-
--- a name alone, without specifier and offset
-abbrev pub plain_name : Disp → Option (List ℕ)
-plain_name (Disp.Num n) = None
-plain_name (Disp.Sym a) = if is_none a.spec && nat_eq (nat_abs a.offset) 0 then Some a.name else None
-
--- the T of an operand T(,%r,8)
-abbrev pub table_of_mem : Mem → Option (List ℕ)
-table_of_mem m =
-    if not m.fs && is_absent m.base && is_some m.index && nat_eq m.scale 8 then plain_name m.disp else None
-
-abbrev pub table_of_arg : Arg → Option (List ℕ)
-table_of_arg (Arg.Mem m) = table_of_mem m
-table_of_arg _ = None
 
 -- a jump through its operand (Intel SDM volume 2, JMP near absolute indirect), with `notrack` or without
 abbrev pub is_star : Op → Bool

@@ -3,7 +3,8 @@
 ghost use Rattle.std.specs.Prelude.{◌≡◌, map, option_map, option_to_list};
 ghost use Rattle.insn_ir.specs.declared.insn.Disp.{Disp};
 ghost use Rattle.jump_tables.specs.EntryNames.{lent_name, names_in};
-ghost use Rattle.jump_tables.specs.Uses.{atoms_of_arg, names, insn_names, directive_names, plain_name, table_of_mem, table_jump};
+ghost use Rattle.insn_ir.specs.Jumps.{plain_name, table_of_mem};
+ghost use Rattle.jump_tables.specs.Uses.{atoms_of_arg, names, insn_names, directive_names, table_jump};
 
 use insn_ir::{Arg, Atom, Base, DirectiveKind, Disp, EntryKind, Imm, Insn, Mem, Name, Op};
 
