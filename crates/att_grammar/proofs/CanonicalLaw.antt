@@ -20,9 +20,9 @@ use Rattle.att_grammar.specs.Notions.{expect, word_of, number_of, this_word}
 use Rattle.att_grammar.specs.Expressions.{name_of, symbol_of, term_of, sign_of, terms_behind, expression_of}
 use Rattle.att_grammar.specs.Operands.{register_of, paren_of, displacement_of, place_of, address_behind, segment_of, address_of, immediate_of, operand_of, operands_of}
 use Rattle.att_grammar.specs.Instructions.{plain_of, target_of, jump_of, notrack_of, rep_of, prefixed_of, behind, is_direct, instruction_of}
-use Rattle.att_grammar.specs.Directives.{is_assignment, directive_of, named_of, bound_of, placed_of, filled_of, aligned_of, padding_of, max_of, fill_of}
+use Rattle.att_grammar.specs.Directives.{is_assignment, directive_of, named_of, bound_of, placed_of, filled_of, aligned_of, padding_of, max_of, fill_of, IsBelow}
 use Rattle.att_grammar.specs.Entries.{statement_of, unlabelled, kind_of_piece}
-use Rattle.att_grammar.specs.Canonical.{first_items, next_items, mnemonic_items, insn_items, insn_text, padding_items, align_items, align_text, line_of, IsBelow}
+use Rattle.att_grammar.specs.Canonical.{first_items, next_items, mnemonic_items, insn_items, insn_text, padding_items, align_items, align_text, line_of}
 use Rattle.att_grammar.proofs.Spelled.{text_no_label, spelling_read, line_no_label, line_read}
 use Rattle.att_grammar.proofs.CanonicalSpelling.{IsAnyArg, symbol_from, is_symbol, well_first, apart_first, well_next, apart_next, well_align}
 use Rattle.att_grammar.proofs.CanonicalMnemonics.{IsRead, mnemonic_read}

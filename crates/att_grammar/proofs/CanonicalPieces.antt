@@ -11,15 +11,13 @@ use Rattle.insn_ir.specs.declared.insn.Arg.{Arg}
 use Rattle.insn_ir.specs.declared.insn.Insn.{Insn}
 use Rattle.insn_ir.specs.Profile.{IsInstruction}
 use Rattle.att_lexer.specs.Bytes.{is_blank, is_digit, is_letter, is_symbol_byte, is_symbol_start}
-use Rattle.att_lexer.specs.Scan.{place_after, lead_after, at_start, after, ends}
+use Rattle.att_lexer.specs.Scan.{place_after, lead_after, at_start, after, ends, Lead, Blanks, Symbol, Other, Scan}
 use Rattle.att_lexer.specs.Pieces.{AllBytes, IsSymbol, onto_first, pieces_from, pieces}
 use Rattle.att_lexer.specs.Tokens.{ends_tokens}
 use Rattle.att_lexer.specs.declared.scan.Place.TheVariants.{Plain}
-use Rattle.att_lexer.specs.declared.scan.Lead.{Lead}
-use Rattle.att_lexer.specs.declared.scan.Lead.TheVariants.{Blanks, Symbol, Other}
-use Rattle.att_lexer.specs.declared.scan.Scan.{Scan}
 use Rattle.att_grammar.specs.Spelling.{Item, gap, name, digits, sign, render, IsMarkByte, IsWellSpelled}
-use Rattle.att_grammar.specs.Canonical.{first_items, next_items, insn_text, padding_items, align_text, line_of, IsBelow}
+use Rattle.att_grammar.specs.Directives.{IsBelow}
+use Rattle.att_grammar.specs.Canonical.{first_items, next_items, insn_text, padding_items, align_text, line_of}
 use Rattle.att_grammar.proofs.Decimal.{decimal_is}
 use Rattle.att_grammar.proofs.CanonicalSpelling.{well_align}
 use Rattle.att_grammar.proofs.CanonicalLaw.{operands, Leads, begins, insn_items_well}

@@ -19,7 +19,8 @@ use Rattle.att_lexer.specs.Pieces.{AllBytes, IsSymbol}
 use Rattle.att_lexer.specs.Tokens.{ends_tokens}
 use Rattle.att_grammar.specs.Registers.{register_name}
 use Rattle.att_grammar.specs.Spelling.{Item, name, digits, sign, IsMarkByte, IsApart, is_last, IsWellSpelled}
-use Rattle.att_grammar.specs.Canonical.{number_items, spec_items, offset_items, atom_items, imm_items, disp_items, front_items, register_items, index_items, in_parens, place_items, segment_items, mem_items, arg_items, star_items, first_width, first_items, next_items, padding_items, align_items, IsBelow}
+use Rattle.att_grammar.specs.Directives.{IsBelow}
+use Rattle.att_grammar.specs.Canonical.{number_items, spec_items, offset_items, atom_items, imm_items, disp_items, front_items, register_items, index_items, in_parens, place_items, segment_items, mem_items, arg_items, star_items, first_width, first_items, next_items, padding_items, align_items}
 use Rattle.att_grammar.proofs.CanonicalOperands.{IsAnyImm}
 
 -- whether bytes are a symbol

@@ -1,7 +1,8 @@
 -- Instructions that are read are instructions of the profile.
-use Rattle.std.proofs.Common.{◌≡◌, ℕ, zero, suc, ◌+◌, ◌-◌, ◌*◌, ◌%◌, ◌^◌, ◌<◌, ◌≤◌, ◌⊎◌, Bool, true, false, not, ◌&&◌, ◌||◌, cond, List, [], ◌∷◌, Option, Some, None, refl, ap, sym, ◌∙◌, subst, ⊎_elim, arith, lit<, lit≤}
-use Rattle.std.specs.Prelude.{◌==◌, ⊤, ℤ, pos, negsuc, ◌-ℤ◌, IfSome, nat_lt, is_none, codes, bytes_eq}
-use Rattle.std.proofs.lemmas.Bool.{cond-true, cond-false, cases_Bool, and_parts, or_cases, not-true, ltb-true, ltb-false, false≢true, lt-ltb}
+use Rattle.std.proofs.Common.{◌≡◌, ℕ, zero, suc, ◌+◌, ◌-◌, ◌*◌, ◌%◌, ◌^◌, ◌<◌, ◌≤◌, ◌⊎◌, Bool, true, false, not, ◌&&◌, ◌||◌, cond, List, [], ◌∷◌, drop, Option, Some, None, refl, ap, sym, ◌∙◌, subst, ⊎_elim, arith, lit<, lit≤}
+use Rattle.std.specs.Prelude.{◌==◌, ⊤, ℤ, pos, negsuc, ◌-ℤ◌, IfSome, nat_lt, nat_le, is_none, codes, bytes_eq}
+use Rattle.std.specs.List.{AllByRecursion}
+use Rattle.std.proofs.lemmas.Bool.{cond-true, cond-false, cases_Bool, and_parts, or_cases, not-true, ltb-true, ltb-false, leb-true, false≢true, lt-ltb}
 use Rattle.std.proofs.lemmas.Int.{ints}
 use Rattle.insn_ir.specs.declared.op.Reg.{Reg}
 use Rattle.insn_ir.specs.declared.op.Reg.TheVariants.{Rax, Rcx, Rdx, Rbx, Rsp, Rbp, Rsi, Rdi, R8, R9, R10, R11, R12, R13, R14, R15}
@@ -12,6 +13,7 @@ use Rattle.insn_ir.specs.declared.insn.Imm.{Imm}
 use Rattle.insn_ir.specs.declared.insn.Arg.{Arg}
 use Rattle.insn_ir.specs.declared.insn.Insn.{Insn}
 use Rattle.insn_ir.specs.declared.mnemonics.MnemonicHit.{MnemonicHit}
+use Rattle.insn_ir.specs.declared.entry.DirectiveKind.{DirectiveKind}
 use Rattle.insn_ir.specs.declared.entry.EntryKind.{EntryKind}
 use Rattle.insn_ir.specs.Machine.{same_reg}
 use Rattle.insn_ir.specs.Mnemonics.{same_width, has_width, hit_of}
@@ -20,19 +22,19 @@ use Rattle.att_lexer.specs.Pieces.{IsSymbol}
 use Rattle.att_lexer.specs.Tokens.{tokens_of, is_first_label}
 use Rattle.att_lexer.specs.declared.token.Token.{Token}
 use Rattle.att_grammar.specs.Lexemes.{Lexeme, says_all, lexemes_of}
-use Rattle.att_grammar.specs.Notions.{◌>>=◌, or_else, expect, word_of, this_word, is_among, is_end, whole}
+use Rattle.att_grammar.specs.Notions.{◌>>=◌, or_else, expect, word_of, number_of, this_word, is_among, begins_with, is_end, whole, only_word}
 use Rattle.att_grammar.specs.Expressions.{symbol_of}
 use Rattle.att_grammar.specs.Operands.{is_within, operand_of, operands_of}
-use Rattle.att_grammar.specs.Directives.{is_assignment, directive_of}
+use Rattle.att_grammar.specs.Directives.{inert_words, table_words, export_words, set_words, section_words, align_words, string_words, number_words, cell_width, typed_of, func_type, sized_of, func_end, alias_of, constant_of, inert_if, set_by, section, flagged_section, named_section, section_of, small_power, power_among, power_of, power_by, max_of, fill_of, padding_by, padding_of, aligned_of, IsBelow, IsInRange, or_breaking, data_by, data_of, filled_of, placed_of, bound_of, named_of, is_assignment, directive_behind, directive_of}
 use Rattle.att_grammar.specs.Instructions.{is_register, is_memory, is_place, half, fits_number, fits_symbol, fits_sum, is_immediate, is_number, is_plain_memory, is_popped, is_other, is_exchange, is_count_number, is_count, is_move, is_tested, is_wide, is_address_to, is_pushed, none, one, two, three, has_place, has_operands, atom_of, mem_of, kept, imm_of, arg_of, insn, insn_of, read_as, read_by, last_width, width_of, plain_of, is_direct, lone_symbol, lone_operand, target_of, starred_of, star_op, jump_with, jump_of, behind_notrack, notrack_of, rep_of, prefixed_of, behind, instruction_of}
-use Rattle.att_grammar.specs.Entries.{opaque, only_word, label_by, label_of, is_inline_mark, is_directive, insn_or_opaque, statement_of, unlabelled, kind_of_piece, IsOfProfile}
+use Rattle.att_grammar.specs.Entries.{opaque, label_by, label_of, is_inline_mark, is_directive, insn_or_opaque, statement_of, unlabelled, kind_of_piece, IsOfProfile}
 use Rattle.att_grammar.specs.declared.syntax.Symbol.{Symbol}
 use Rattle.att_grammar.specs.declared.syntax.Sum.{Sum}
 use Rattle.att_grammar.specs.declared.syntax.Address.{Address}
 use Rattle.att_grammar.specs.declared.syntax.Operand.{Operand}
 use Rattle.att_grammar.specs.declared.syntax.Operands.{Operands}
 use Rattle.att_grammar.proofs.Words.{Words, words_are_symbols}
-use Rattle.att_grammar.proofs.Parts.{Reads, Leaves, IsNamed, IsNamedIf, IsSum, IsOperand, AreOperands, ReadsAll, expect_leaves, word_reads, this_word_leaves, symbol_reads, operand_reads, operands_read}
+use Rattle.att_grammar.proofs.Parts.{Reads, Leaves, IsNamed, IsNamedIf, IsSum, IsOperand, AreOperands, ReadsAll, expect_leaves, word_reads, number_fits, this_word_leaves, symbol_reads, operand_reads, operands_read}
 
 -- What an operand becomes.
 
@@ -523,6 +525,156 @@ pub instruction_is : (ls : List Lexeme) → Words ls → IfSome (instruction_of 
 unfolding instruction_of
 instruction_is ls h = name_then (word_of ls) (word_reads ls h)
 
+-- Directives.
+
+abbrev AreInRange : Option ℕ × Option ℕ → Type 0
+AreInRange p = IsBelow (2 ^ 64) p.0 × IsBelow (2 ^ 32) p.1
+
+some_in_range : (fill max : Option ℕ) → IsBelow (2 ^ 64) fill → IsBelow (2 ^ 32) max → IfSome (Some (fill, max)) AreInRange
+some_in_range fill max f m = (f, m)
+
+range_if : (t : Bool) (k l : DirectiveKind) → IsInRange k → IsInRange l → IsInRange (cond t k l)
+range_if true k l h j = h
+range_if false k l h j = j
+
+align_in_range : (power : ℕ) (fill max : Option ℕ) → power ≤ 12 → IsBelow (2 ^ 64) fill → IsBelow (2 ^ 32) max → IfSome (Some (DirectiveKind.Align power fill max)) IsInRange
+align_in_range power fill max p f m = (p, f, m)
+
+some_if : {A : Type 0} (P : A → Type 0) (t : Bool) (o p : Option A) → (t ≡ true → IfSome o P) → (t ≡ false → IfSome p P) → IfSome (cond t o p) P
+some_if P true o p h k = h refl
+some_if P false o p h k = k refl
+
+some_then : {A C : Type 0} (P : C → Type 0) (o : Option A) (f : A → Option C) → ((x : A) → IfSome (f x) P) → IfSome (o >>= f) P
+some_then P None f h = tt
+some_then P (Some x) f h = h x
+
+some_with : {A C : Type 0} (R : A → Type 0) (P : C → Type 0) (o : Option A) (f : A → Option C) → IfSome o R → ((x : A) → R x → IfSome (f x) P) → IfSome (o >>= f) P
+some_with R P None f h k = tt
+some_with R P (Some x) f h k = k x h
+
+small_is : (n : ℕ) → IfSome (small_power n) (λ p. p ≤ 12)
+small_is n = some_if (λ p. p ≤ 12) (nat_le n 12) (Some n) None (λ e. leb-true n 12 e) (λ e. tt)
+
+abbrev AllSmall : List ℕ → Type 0
+AllSmall ks = AllByRecursion (λ k. k ≤ 12) ks
+
+among_is : (ks : List ℕ) (n : ℕ) → AllSmall ks → IfSome (power_among ks n) (λ p. p ≤ 12)
+among_is [] n h = tt
+among_is (k ∷ ks) n h = some_if (λ p. p ≤ 12) (n == 2 ^ k) (Some k) (power_among ks n) (λ e. h.0) (λ e. among_is ks n h.1)
+
+power_is : (n : ℕ) → IfSome (power_of n) (λ p. p ≤ 12)
+unfolding power_of
+power_is n =
+    let ks : List ℕ = 0 ∷ 1 ∷ 2 ∷ 3 ∷ 4 ∷ 5 ∷ 6 ∷ 7 ∷ 8 ∷ 9 ∷ 10 ∷ 11 ∷ 12 ∷ [] in
+    let all : AllSmall ks =
+        (lit≤ tt, (lit≤ tt, (lit≤ tt, (lit≤ tt, (lit≤ tt, (lit≤ tt, (lit≤ tt, (lit≤ tt, (lit≤ tt, (lit≤ tt, (lit≤ tt, (lit≤ tt, (lit≤ tt, tt))))))))))))) in
+    among_is ks n all
+
+power_by_is : (t : Bool) (n : ℕ) → IfSome (power_by t n) (λ p. p ≤ 12)
+power_by_is true n = small_is n
+power_by_is false n = power_is n
+
+max_is : (ls : List Lexeme) → IfSome (max_of ls) (λ n. n < 2 ^ 32)
+unfolding max_of
+max_is ls =
+    some_then (λ n. n < 2 ^ 32) (number_of ls >>= whole) _ (λ n. some_if (λ m. m < 2 ^ 32) (nat_lt n (2 ^ 32)) (Some n) None (λ e. ltb-true n (2 ^ 32) e) (λ e. tt))
+
+fill_is : (ls : List Lexeme) → Words ls → IfSome (fill_of ls) AreInRange
+unfolding fill_of
+fill_is ls h =
+    some_with (λ r. (r.0 < 2 ^ 64) × Words r.1) AreInRange (number_of ls) _ (number_fits ls h)
+    (λ fill fits. some_if AreInRange (is_end fill.1) _ _ (λ e. some_in_range (Some fill.0) None fits.0 tt)
+    (λ e. some_with (λ n. n < 2 ^ 32) AreInRange (expect 44 fill.1 >>= max_of) (λ max. Some (Some fill.0, Some max)) (some_then (λ n. n < 2 ^ 32) (expect 44 fill.1) max_of (λ rest. max_is rest)) (λ max few. some_in_range (Some fill.0) (Some max) fits.0 few)))
+
+padded_is : (o : Option (List Lexeme)) (ls : List Lexeme) → Words ls → IfSome (padding_by o ls) AreInRange
+padded_is (Some behind) ls h = some_with (λ n. n < 2 ^ 32) AreInRange (max_of behind) _ (max_is behind) (λ max few. some_in_range None (Some max) tt few)
+padded_is None ls h = fill_is ls h
+
+padding_is : (ls : List Lexeme) → Words ls → IfSome (padding_of ls) AreInRange
+unfolding padding_of
+padding_is ls h =
+    some_if AreInRange (is_end ls) _ _ (λ e. some_in_range None None tt tt)
+    (λ e. some_with Words AreInRange (expect 44 ls) _ (expect_leaves 44 ls h) (λ rest words. padded_is (expect 44 rest) rest words))
+
+aligned_is : (t : Bool) (ls : List Lexeme) → Words ls → IfSome (aligned_of t ls) IsInRange
+unfolding aligned_of
+aligned_is t ls h =
+    some_with (λ r. (r.0 < 2 ^ 64) × Words r.1) IsInRange (number_of ls) _ (number_fits ls h)
+    (λ n fits. some_with (λ p. p ≤ 12) IsInRange (power_by t n.0) _ (power_by_is t n.0)
+    (λ power small. some_with AreInRange IsInRange (padding_of n.1) _ (padding_is n.1 fits.1) (λ p ranges. align_in_range power p.0 p.1 small ranges.0 ranges.1)))
+
+or_breaking_is : (o : Option DirectiveKind) → IfSome o IsInRange → IsInRange (or_breaking o)
+or_breaking_is None h = tt
+or_breaking_is (Some k) h = h
+
+data_is : (o : Option Width) (name : List ℕ) (ls : List Lexeme) → IsInRange (data_by o name ls)
+data_is (Some width) name ls = tt
+data_is None name ls = range_if (is_among string_words name || is_among number_words name) _ _ tt tt
+
+filled_is : (name : List ℕ) (ls : List Lexeme) → Words ls → IsInRange (filled_of name ls)
+unfolding filled_of data_of
+filled_is name ls h =
+    range_if (bytes_eq (codes ".p2align") name) _ _ (or_breaking_is (aligned_of true ls) (aligned_is true ls h))
+    (range_if (is_among align_words name) _ _ (or_breaking_is (aligned_of false ls) (aligned_is false ls h)) (data_is (cell_width name) name ls))
+
+flagged_is : (name : List ℕ) (o : Option Bool) → IsInRange (flagged_section name o)
+flagged_is name None = tt
+flagged_is name (Some flagged) = tt
+
+named_section_is : (piece : List ℕ) (tokens : List Token) (name : List ℕ) (start : ℕ) → IsInRange (named_section piece tokens name start)
+named_section_is piece tokens [] start = tt
+named_section_is piece tokens (b ∷ bs) start = flagged_is (b ∷ bs) _
+
+section_is : (piece : List ℕ) (tokens : List Token) → IsInRange (section_of piece tokens)
+unfolding section_of
+section_is piece [] = tt
+section_is piece (t ∷ ts) = named_section_is piece (t ∷ ts) _ t.start
+
+placed_is : (piece : List ℕ) (tokens : List Token) (name : List ℕ) (ls : List Lexeme) → Words ls → IsInRange (placed_of piece tokens name ls)
+unfolding placed_of
+placed_is piece tokens name ls h =
+    range_if (is_among section_words name) _ _ (range_if (is_end ls) (section name false) DirectiveKind.Breaking tt tt)
+    (range_if (bytes_eq (codes ".section") name) _ _ (section_is piece tokens) (filled_is name ls h))
+
+type_is : (o : Option (List ℕ)) → IsInRange (func_type o)
+type_is None = tt
+type_is (Some f) = tt
+
+end_is : (o : Option (List ℕ)) → IsInRange (func_end o)
+end_is None = tt
+end_is (Some f) = tt
+
+inert_is : (o : Option (List ℕ)) → IsInRange (inert_if o)
+inert_is None = tt
+inert_is (Some a) = tt
+
+set_is : (o : Option (List ℕ × List ℕ)) (ls : List Lexeme) → IsInRange (set_by o ls)
+set_is None ls = inert_is (constant_of ls)
+set_is (Some names) ls = tt
+
+bound_is : (piece : List ℕ) (tokens : List Token) (name : List ℕ) (ls : List Lexeme) → Words ls → IsInRange (bound_of piece tokens name ls)
+unfolding bound_of
+bound_is piece tokens name ls h =
+    range_if (bytes_eq (codes ".type") name) _ _ (type_is (typed_of ls))
+    (range_if (bytes_eq (codes ".size") name) _ _ (end_is (sized_of ls))
+    (range_if (is_among set_words name) _ _ (set_is (alias_of ls) ls) (placed_is piece tokens name ls h)))
+
+named_is : (piece : List ℕ) (tokens : List Token) (name : List ℕ) (ls : List Lexeme) → Words ls → IsInRange (named_of piece tokens name ls)
+unfolding named_of
+named_is piece tokens name ls h =
+    range_if (is_among inert_words name) _ _ tt
+    (range_if (is_among table_words name) _ _ tt
+    (range_if (begins_with (codes ".cfi_") name) _ _ tt (range_if (is_among export_words name) _ _ tt (bound_is piece tokens name ls h))))
+
+behind_name : (piece : List ℕ) (tokens : List Token) (o : Option (List ℕ × List Lexeme)) → Reads IsSymbol o → IsInRange (directive_behind piece tokens o)
+behind_name piece tokens None h = tt
+behind_name piece tokens (Some name) h = named_is piece (drop 1 tokens) name.0 name.1 h.1
+
+directive_is : (piece : List ℕ) (tokens : List Token) → Words (says_all piece tokens) → IsInRange (directive_of piece tokens)
+unfolding directive_of
+directive_is piece tokens h =
+    range_if (is_assignment (says_all piece tokens)) _ _ tt (behind_name piece tokens (word_of (says_all piece tokens)) (word_reads (says_all piece tokens) h))
+
 -- Entries.
 
 kind_if : (t : Bool) (k l : EntryKind) → IsOfProfile k → IsOfProfile l → IsOfProfile (cond t k l)
@@ -541,14 +693,14 @@ statement_is : (piece : List ℕ) (ts : List Token) → Words (says_all piece ts
 unfolding statement_of
 statement_is piece ts h =
     let ls = says_all piece ts in
-    kind_if (is_assignment ls || is_directive ls) (EntryKind.Directive (directive_of piece ts)) (insn_or_opaque (instruction_of ls) ls) tt
+    kind_if (is_assignment ls || is_directive ls) (EntryKind.Directive (directive_of piece ts)) (insn_or_opaque (instruction_of ls) ls) (directive_is piece ts h)
     (insn_is (instruction_of ls) ls (instruction_is ls h))
 
 unlabelled_is : (piece : List ℕ) (ts : List Token) → Words (says_all piece ts) → IsOfProfile (unlabelled piece ts)
 unlabelled_is piece [] h = kind_if (is_inline_mark piece) EntryKind.InlineMark EntryKind.Blank tt tt
 unlabelled_is piece (t ∷ ts) h = statement_is piece (t ∷ ts) h
 
--- an instruction that a piece is, is one of the profile
+-- an instruction that a piece is, is one of the profile, and an alignment has its ranges
 pub kind_is : (piece : List ℕ) → IsOfProfile (kind_of_piece piece)
 unfolding kind_of_piece
 kind_is piece =

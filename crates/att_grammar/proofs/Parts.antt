@@ -96,6 +96,15 @@ number_reads (number n ∷ rest) h = (tt, h.1)
 number_reads (text bytes ∷ rest) h = tt
 number_reads (odd bytes ∷ rest) h = tt
 
+pub number_fits : (ls : List Lexeme) → Words ls → Reads (λ n. n < 2 ^ 64) (number_of ls)
+unfolding number_of
+number_fits [] h = tt
+number_fits (mark m ∷ rest) h = tt
+number_fits (word bytes ∷ rest) h = tt
+number_fits (number n ∷ rest) h = h
+number_fits (text bytes ∷ rest) h = tt
+number_fits (odd bytes ∷ rest) h = tt
+
 pub this_word_leaves : (bytes : List ℕ) (ls : List Lexeme) → Words ls → Leaves (this_word bytes ls)
 unfolding this_word
 this_word_leaves bytes ls h = reads_leaves IsSymbol (word_of ls) _ (word_reads ls h) (λ w s rest. leaves_if (bytes_eq bytes w.0) w.1 rest)

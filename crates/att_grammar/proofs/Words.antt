@@ -1,13 +1,13 @@
 -- The words of a piece are symbols.
-use Rattle.std.proofs.Common.{◌≡◌, ℕ, zero, suc, ◌+◌, ◌-◌, Bool, true, false, not, ◌&&◌, List, [], ◌∷◌, ◌++◌, length, take, drop, Option, Some, None, refl, ap, sym, ◌∙◌, subst, ⊎_elim, append-nil, arith}
-use Rattle.std.specs.Prelude.{◌==◌, slice_index, ⊤}
+use Rattle.std.proofs.Common.{◌≡◌, ℕ, zero, suc, ◌+◌, ◌-◌, Bool, true, false, not, ◌&&◌, cond, List, [], ◌∷◌, ◌++◌, length, take, drop, Option, Some, None, refl, ap, sym, ◌∙◌, subst, ⊎_elim, append-nil, arith}
+use Rattle.std.specs.Prelude.{◌==◌, ◌||◌, ◌<◌, ◌^◌, slice_index, nat_lt, IfSome, ⊤}
 use Rattle.std.specs.List.{take_while, prefix_len}
-use Rattle.std.proofs.lemmas.Bool.{cond-true, cond-false, cases_Bool, and_parts, and_from, not-true}
+use Rattle.std.proofs.lemmas.Bool.{cond-true, cond-false, cases_Bool, and_parts, and_from, not-true, ltb-true}
 use Rattle.std.proofs.lemmas.List.{take-append-drop}
 use Rattle.std.proofs.lemmas.List.Folds.{length-prefix_len}
 use Rattle.att_lexer.specs.Bytes.{is_blank, is_digit, is_symbol_byte, is_symbol_start}
 use Rattle.att_lexer.specs.Pieces.{AllBytes, IsSymbol}
-use Rattle.att_lexer.specs.Tokens.{number_of, numbered, run_token, text_len, token_of, ends_tokens, is_first_label, counted}
+use Rattle.att_lexer.specs.Tokens.{number_of, number_in, if_fits, value_from, numbered, run_token, text_len, token_of, ends_tokens, is_first_label, counted}
 use Rattle.att_lexer.specs.declared.token.TokenKind.TheVariants.{Text, Mark, Word}
 use Rattle.att_lexer.specs.declared.token.Token.{Token}
 use Rattle.att_grammar.specs.Lexemes.{Lexeme, word, number, text, mark, odd, lexeme, lexemes_of}
@@ -15,12 +15,12 @@ use Rattle.att_grammar.proofs.Read.{lexeme_of, lexemes_from, lexemes_end, lexeme
 
 abbrev pub IsWell : Lexeme → Type 0
 IsWell (word bytes) = IsSymbol bytes
-IsWell (number n) = ⊤
+IsWell (number n) = n < 2 ^ 64
 IsWell (text bytes) = ⊤
 IsWell (mark m) = ⊤
 IsWell (odd bytes) = ⊤
 
--- every word is a symbol
+-- every word is a symbol, and every number has at most 64 bits
 abbrev pub Words : List Lexeme → Type 0
 Words [] = ⊤
 Words (l ∷ ls) = IsWell l × Words ls
@@ -49,10 +49,35 @@ starts_symbol b s d e = and_from _ _ (and_from _ _ s (ap not d)) (ap not e)
 says : Token → List ℕ → Lexeme
 says t bytes = lexeme t.kind (take t.len bytes) t.value
 
-numbered_well : (len : ℕ) (n : Option ℕ) (bytes : List ℕ) → IsWell (says (numbered 0 len n) bytes)
+numbered_well : (len : ℕ) (n : Option ℕ) (bytes : List ℕ) → IfSome n (λ value. value < 2 ^ 64) → IsWell (says (numbered 0 len n) bytes)
 unfolding says
-numbered_well len (Some n) bytes = tt
-numbered_well len None bytes = tt
+numbered_well len (Some n) bytes h = h
+numbered_well len None bytes h = tt
+
+fitting : (n : ℕ) (t : Bool) → nat_lt n (2 ^ 64) ≡ t → IfSome (cond t (Some n) None) (λ value. value < 2 ^ 64)
+fitting n true e = ltb-true n (2 ^ 64) e
+fitting n false e = tt
+
+if_fits_fits : (n : Option ℕ) → IfSome (if_fits n) (λ value. value < 2 ^ 64)
+if_fits_fits None = tt
+if_fits_fits (Some n) = fitting n (nat_lt n (2 ^ 64)) refl
+
+number_in_fits : (base : ℕ) (ds : List ℕ) → IfSome (number_in base ds) (λ value. value < 2 ^ 64)
+number_in_fits base [] = tt
+number_in_fits base (d ∷ ds) = if_fits_fits (value_from base 0 (d ∷ ds))
+
+fits_if : (t : Bool) (m n : Option ℕ) → IfSome m (λ value. value < 2 ^ 64) → IfSome n (λ value. value < 2 ^ 64) → IfSome (cond t m n) (λ value. value < 2 ^ 64)
+fits_if true m n h k = h
+fits_if false m n h k = k
+
+number_of_fits : (run : List ℕ) → IfSome (number_of run) (λ value. value < 2 ^ 64)
+unfolding number_of
+number_of_fits [] = tt
+number_of_fits (b ∷ []) = number_in_fits 10 (b ∷ [])
+number_of_fits (b ∷ c ∷ ds) =
+    fits_if (b == 48) _ _
+    (fits_if (c == 120 || c == 88) _ _ (number_in_fits 16 ds) (fits_if (c == 98 || c == 66) _ _ (number_in_fits 2 ds) (number_in_fits 8 (c ∷ ds))))
+    (number_in_fits 10 (b ∷ c ∷ ds))
 
 run_is_first : (b : ℕ) (bs : List ℕ) → is_symbol_byte b ≡ true → slice_index (take_while is_symbol_byte (b ∷ bs)) 0 ≡ b
 run_is_first b bs e = ap (λ l. slice_index l 0) (while_cons b bs e)
@@ -69,7 +94,7 @@ run_well b bs s d =
     let run = take_while is_symbol_byte (b ∷ bs) in
     let first : is_digit (slice_index run 0) ≡ is_digit b = ap is_digit (run_is_first b bs s) in
     ⊎_elim
-    (λ e. subst (λ t. IsWell (says t (b ∷ bs))) (sym (cond-true (is_digit (slice_index run 0)) _ _ (first ∙ e))) (numbered_well (length run) (number_of run) (b ∷ bs)))
+    (λ e. subst (λ t. IsWell (says t (b ∷ bs))) (sym (cond-true (is_digit (slice_index run 0)) _ _ (first ∙ e))) (numbered_well (length run) (number_of run) (b ∷ bs) (number_of_fits run)))
     (λ e. subst (λ t. IsWell (says t (b ∷ bs))) (sym (cond-false (is_digit (slice_index run 0)) _ _ (first ∙ e))) (word_well b bs s d e))
     (cases_Bool (is_digit b))
 

@@ -1,6 +1,6 @@
 -- Canonical text: one spelling for each instruction of the profile and for each alignment (GNU as manual, "i386-Syntax",
 -- "i386-Mnemonics", "i386-Memory" and "P2align").
-use Rattle.std.specs.Prelude.{ℕ, zero, suc, ◌<◌, ⊤, ℤ, pos, negsuc, Bool, true, false, List, [], ◌∷◌, ◌++◌, Option, Some, None, codes}
+use Rattle.std.specs.Prelude.{ℕ, zero, suc, ℤ, pos, negsuc, Bool, true, false, List, [], ◌∷◌, ◌++◌, Option, Some, None, codes}
 use Rattle.insn_ir.specs.declared.op.Reg.{Reg}
 use Rattle.insn_ir.specs.declared.op.Width.{Width}
 use Rattle.insn_ir.specs.declared.op.Width.TheVariants.{B, Q}
@@ -135,11 +135,6 @@ insn_items insn =
 -- the canonical text of an instruction
 unfoldable pub insn_text : Insn → List ℕ
 insn_text insn = render (insn_items insn)
-
--- a number below a bound, where there is one
-abbrev pub IsBelow : ℕ → Option ℕ → Type 0
-IsBelow bound None = ⊤
-IsBelow bound (Some n) = n < bound
 
 -- a fill, a most number of bytes, or both
 abbrev pub padding_items : Option ℕ → Option ℕ → List Item

@@ -1,5 +1,5 @@
 -- Directives (GNU as manual, "Pseudo Ops", a section for each word).
-use Rattle.std.specs.Prelude.{ℕ, ◌+◌, ◌^◌, Bool, true, false, not, ◌==◌, ◌||◌, ◌&&◌, nat_lt, nat_le, List, [], ◌∷◌, map, length, drop, Option, Some, None, codes, bytes_eq, if◌then◌else◌}
+use Rattle.std.specs.Prelude.{ℕ, ◌+◌, ◌^◌, ◌<◌, ◌≤◌, ⊤, Bool, true, false, not, ◌==◌, ◌||◌, ◌&&◌, nat_lt, nat_le, List, [], ◌∷◌, map, length, drop, Option, Some, None, codes, bytes_eq, if◌then◌else◌}
 use Rattle.std.specs.List.{prefix_len, take_while, list_any}
 use Rattle.insn_ir.specs.declared.op.Width.{Width}
 use Rattle.insn_ir.specs.declared.op.Width.TheVariants.{B, W, L, Q}
@@ -9,7 +9,7 @@ use Rattle.att_lexer.specs.Bytes.{is_blank}
 use Rattle.att_lexer.specs.Tokens.{ends_tokens}
 use Rattle.att_lexer.specs.declared.token.Token.{Token}
 use Rattle.att_grammar.specs.Lexemes.{Lexeme, word, number, text, mark, odd, says_all}
-use Rattle.att_grammar.specs.Notions.{◌>>=◌, or_else, expect, word_of, number_of, text_of, this_word, is_among, begins_with, is_end, whole, words_in}
+use Rattle.att_grammar.specs.Notions.{◌>>=◌, or_else, expect, word_of, number_of, text_of, this_word, is_among, begins_with, is_end, whole, only_word, words_in}
 use Rattle.att_grammar.specs.Expressions.{name_of}
 
 -- The words, by what they are for.
@@ -176,6 +176,16 @@ unfoldable pub aligned_of : Bool → List Lexeme → Option DirectiveKind
 aligned_of by_power lexemes =
     number_of lexemes >>= λ n. power_by by_power n.0 >>= λ power. padding_of n.1 >>= λ p. Some (DirectiveKind.Align power p.0 p.1)
 
+-- a number below a bound, where there is one
+abbrev pub IsBelow : ℕ → Option ℕ → Type 0
+IsBelow bound None = ⊤
+IsBelow bound (Some n) = n < bound
+
+-- An alignment is to at most 2 ^ 12 bytes; its fill has at most 64 bits, and the most bytes that it may take have 32.
+abbrev pub IsInRange : DirectiveKind → Type 0
+IsInRange (DirectiveKind.Align power fill max) = (power ≤ 12) × IsBelow (2 ^ 64) fill × IsBelow (2 ^ 32) max
+IsInRange _ = ⊤
+
 abbrev pub or_breaking : Option DirectiveKind → DirectiveKind
 or_breaking (Some kind) = kind
 or_breaking None = DirectiveKind.Breaking
@@ -198,10 +208,7 @@ unfoldable pub cut_at_commas : List Lexeme → List (List Lexeme)
 cut_at_commas [] = [] ∷ []
 cut_at_commas (l ∷ ls) = if is_comma l then [] ∷ cut_at_commas ls else onto_first l (cut_at_commas ls)
 
--- a name alone, and a difference of two
-unfoldable pub lone_of : List Lexeme → Option (List ℕ)
-lone_of lexemes = word_of lexemes >>= λ a. if is_end a.1 then Some a.0 else None
-
+-- a difference of two names
 unfoldable pub difference_of : List Lexeme → Option (List ℕ × List ℕ)
 difference_of lexemes = word_of lexemes >>= λ a. expect 45 a.1 >>= word_of >>= λ b. if is_end b.1 then Some (a.0, b.0) else None
 
@@ -214,7 +221,7 @@ cell_by (Some name) lexemes = Cell.Sym name
 cell_by None lexemes = diff_cell (difference_of lexemes)
 
 abbrev pub cell_of : List Lexeme → Cell
-cell_of lexemes = cell_by (lone_of lexemes) lexemes
+cell_of lexemes = cell_by (only_word lexemes) lexemes
 
 abbrev pub cells_of : List Lexeme → List Cell
 cells_of lexemes = map cell_of (cut_at_commas lexemes)

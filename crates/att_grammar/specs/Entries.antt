@@ -9,16 +9,12 @@ use Rattle.att_lexer.specs.Bytes.{is_blank, is_symbol_byte}
 use Rattle.att_lexer.specs.Tokens.{tokens_of, is_first_label}
 use Rattle.att_lexer.specs.declared.token.Token.{Token}
 use Rattle.att_grammar.specs.Lexemes.{Lexeme, word, number, text, mark, odd, says_all, lexemes_of}
-use Rattle.att_grammar.specs.Notions.{◌>>=◌, word_of, whole, begins_with, words_in}
-use Rattle.att_grammar.specs.Directives.{is_assignment, directive_of}
+use Rattle.att_grammar.specs.Notions.{only_word, begins_with, words_in}
+use Rattle.att_grammar.specs.Directives.{is_assignment, directive_of, IsInRange}
 use Rattle.att_grammar.specs.Instructions.{instruction_of}
 
 abbrev pub opaque : List Lexeme → EntryKind
 opaque lexemes = EntryKind.Opaque (words_in lexemes)
-
--- a word, and nothing behind it
-abbrev pub only_word : List Lexeme → Option (List ℕ)
-only_word lexemes = word_of lexemes >>= whole
 
 abbrev pub label_by : Option (List ℕ) → List Lexeme → EntryKind
 label_by (Some name) lexemes = EntryKind.Label name
@@ -67,11 +63,11 @@ unlabelled piece (t ∷ ts) = statement_of piece (t ∷ ts)
 unfoldable pub kind_of_piece : List ℕ → EntryKind
 kind_of_piece piece = if is_first_label piece then label_of (lexemes_of piece) else unlabelled piece (tokens_of piece)
 
--- an instruction is one of the profile
+-- an instruction is one of the profile, and an alignment has its ranges
 abbrev pub IsOfProfile : EntryKind → Type 0
 IsOfProfile (EntryKind.Insn i) = IsInstruction i
 IsOfProfile EntryKind.Blank = ⊤
 IsOfProfile (EntryKind.Label name) = ⊤
-IsOfProfile (EntryKind.Directive kind) = ⊤
+IsOfProfile (EntryKind.Directive kind) = IsInRange kind
 IsOfProfile EntryKind.InlineMark = ⊤
 IsOfProfile (EntryKind.Opaque names) = ⊤

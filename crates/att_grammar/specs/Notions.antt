@@ -65,6 +65,10 @@ is_end (l ∷ ls) = false
 abbrev pub whole : {A : Type 0} → A × List Lexeme → Option A
 whole r = if is_end r.1 then Some r.0 else None
 
+-- a word, and nothing behind it
+abbrev pub only_word : List Lexeme → Option (List ℕ)
+only_word lexemes = word_of lexemes >>= whole
+
 -- the words among lexemes
 abbrev pub words_in : List Lexeme → List (List ℕ)
 words_in [] = []

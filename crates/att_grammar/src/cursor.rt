@@ -3,9 +3,9 @@ ghost use Rattle.std.specs.Prelude.{◌≡◌, ◌^◌, ◌<◌, ◌≤◌, not,
 ghost use Rattle.std.specs.List.{prefix_len};
 ghost use Rattle.att_grammar.specs.Lexemes.{content, says_all, LiesIn, LieIn, AreReadable};
 ghost use Rattle.att_grammar.specs.Seen.{says};
-ghost use Rattle.att_grammar.specs.Notions.{expect, word_of, number_of, text_of, this_word, is_end, words_in};
+ghost use Rattle.att_grammar.specs.Notions.{expect, word_of, number_of, text_of, this_word, is_end, only_word, words_in};
 ghost use Rattle.att_grammar.specs.Expressions.{name_of};
-ghost use Rattle.att_grammar.specs.Directives.{is_comma, cut_at_commas};
+ghost use Rattle.att_grammar.specs.Directives.{is_comma, is_assignment, cut_at_commas};
 
 use crate::seen::{Seen, read_token};
 use crate::syntax::Word;
@@ -143,6 +143,29 @@ impl<'a> Cursor<'a> {
             None
         } else {
             Some((word, rest))
+        }
+    }
+
+    /// The word that stands alone.
+    pub fn only_word(&self) -> Option<Word<'a>>
+        ensures { result ≡ only_word self.now }
+    {
+        let (word, rest) = self.word()?;
+        if rest.is_at_end() { Some(word) } else { None }
+    }
+
+    /// Whether the second lexeme is `=` (GNU as manual, "Setting Symbols").
+    pub fn is_assignment(&self) -> bool
+        ensures { result ≡ is_assignment self.now }
+    {
+        let Some((_, rest)) = self.first() else {
+            return false;
+        };
+        match rest.first() {
+            Some((Seen::Mark(b), _)) => b == b'=',
+            Some((Seen::Word(_) | Seen::Number(_) | Seen::Text(_) | Seen::Odd(_), _)) | None => {
+                false
+            }
         }
     }
 

@@ -9,14 +9,16 @@ ghost use Rattle.insn_ir.specs.declared.entry.DirectiveKind.{DirectiveKind};
 ghost use Rattle.att_grammar.specs.Lexemes.{lexemes_of};
 ghost use Rattle.att_grammar.specs.Spelling.{Item, render, said, IsWellSpelled};
 ghost use Rattle.att_grammar.specs.Entries.{kind_of_piece, IsOfProfile};
-ghost use Rattle.att_grammar.specs.Canonical.{insn_text, align_text, line_of, IsBelow};
+ghost use Rattle.att_grammar.specs.Directives.{IsBelow};
+ghost use Rattle.att_grammar.specs.Canonical.{insn_text, align_text, line_of};
 
 /// Text that is well spelled has the lexemes that it was made of.
 pub fn spelling_is_read()
     ensures { (items : List Item) → IsWellSpelled items → lexemes_of (render items) ≡ said items }
 {}
 
-/// Whatever a piece is, an instruction that it is, is one of the profile.
+/// Whatever a piece is, an instruction that it is, is one of the profile, and an alignment that it is, has a power of at
+/// most 12, a fill of at most 64 bits and a most number of bytes of at most 32.
 pub fn entries_are_of_the_profile()
     ensures { (piece : List ℕ) → IsOfProfile (kind_of_piece piece) }
 {}

@@ -3,9 +3,7 @@ use Rattle.std.proofs.Common.{◌≡◌, ℕ, suc, ◌+◌, ◌<◌, length, get
 use Rattle.std.specs.List.{fold, prefix_len, list_all}
 use Rattle.std.proofs.lemmas.Bool.{cond-true, cond-false, cases_Bool}
 use Rattle.att_lexer.specs.Bytes.{is_blank, is_digit, is_symbol_byte, is_symbol_start}
-use Rattle.att_lexer.specs.Scan.{lead_after, is_name, is_named}
-use Rattle.att_lexer.specs.declared.scan.Lead.{Lead}
-use Rattle.att_lexer.specs.declared.scan.Lead.TheVariants.{Blanks, Symbol, Digits, Other}
+use Rattle.att_lexer.specs.Scan.{lead_after, is_name, is_named, Lead, Blanks, Symbol, Digits, Other}
 use Rattle.att_lexer.proofs.ScanLaws.{other_stays, blank_no_start, blank_no_digit}
 
 -- a lead that goes on where a byte passes, and is lost where it doesn't

@@ -3,11 +3,10 @@ use Rattle.std.proofs.Common.{◌≡◌, ℕ, zero, suc, ◌<◌, Bool, true, fa
 use Rattle.std.specs.Prelude.{⊤}
 use Rattle.std.specs.List.{fold, AllByRecursion, concat}
 use Rattle.std.proofs.lemmas.Bool.{cases_Bool, false≢true, false_from_ne_true}
-use Rattle.att_lexer.specs.Scan.{at_start, after, ends}
+use Rattle.att_lexer.specs.Scan.{at_start, after, ends, Scan}
 use Rattle.att_lexer.specs.Pieces.{IsEnded, AllButLast, NoneEarlier, ArePieces, onto_first, pieces_from, pieces}
 use Rattle.att_lexer.proofs.Cutting.{pieces_from-ends, pieces_from-goes, pieces_from-nil}
 use Rattle.att_lexer.proofs.ScanLaws.{ends_tells, ends_since}
-use Rattle.att_lexer.specs.declared.scan.Scan.{Scan}
 
 -- whether the last byte is an end, behind what was scanned
 abbrev pub ends_from : Scan → List ℕ → Bool

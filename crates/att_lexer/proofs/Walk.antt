@@ -7,14 +7,11 @@ use Rattle.std.proofs.lemmas.Bool.Decides.{nat_tests}
 use Rattle.std.proofs.lemmas.List.{get_or-drop, take_more}
 use Rattle.std.proofs.lemmas.List.Sums.{fold_more, prefix_len_passes, prefix_len_stops, prefix_len-le-length}
 use Rattle.att_lexer.specs.Bytes.{is_blank, is_digit, is_letter, is_symbol_byte, is_symbol_start, is_stop, is_calm, is_freeze_byte}
-use Rattle.att_lexer.specs.Scan.{place_after, is_plain, lead_after, after, ends}
+use Rattle.att_lexer.specs.Scan.{place_after, is_plain, lead_after, after, ends, Lead, Blanks, Symbol, Digits, Other, Scan}
 use Rattle.att_lexer.specs.Pieces.{pieces, freeze_from, freeze_of}
 use Rattle.att_lexer.specs.Walk.{past, front_scan, is_passed, IsFront, first_of, found_at, found_in_all, IsThawed}
 use Rattle.att_lexer.specs.declared.scan.Place.{Place}
 use Rattle.att_lexer.specs.declared.scan.Place.TheVariants.{Plain, InString, Escaped, InComment}
-use Rattle.att_lexer.specs.declared.scan.Lead.{Lead}
-use Rattle.att_lexer.specs.declared.scan.Lead.TheVariants.{Blanks, Symbol, Digits, Other}
-use Rattle.att_lexer.specs.declared.scan.Scan.{Scan}
 use Rattle.att_lexer.proofs.Cutting.{front_none, front_more, front_all}
 
 -- a byte that is passed neither ends the piece nor keeps a file as it is nor changes the place

@@ -3,10 +3,10 @@ use Rattle.std.specs.Prelude.{ℕ, ◌+◌, ◌<◌, ◌≡◌, ◌⊎◌, ⊤, 
 use Rattle.std.specs.declared.option.Option.{Option}
 use Rattle.std.specs.List.{AllByRecursion, concat}
 use Rattle.att_lexer.specs.Bytes.{is_blank, is_digit, is_symbol_byte, is_symbol_start, is_freeze_byte}
-use Rattle.att_lexer.specs.Scan.{place_after, is_plain, is_open, at_start, after, scan_of, ends}
+use Rattle.att_lexer.specs.Scan.{place_after, is_plain, is_open, at_start, after, scan_of, ends, Scan}
 use Rattle.att_lexer.specs.declared.scan.Place.{Place}
 use Rattle.att_lexer.specs.declared.scan.Place.TheVariants.{Plain}
-use Rattle.att_lexer.specs.declared.scan.Scan.{Scan}
+use Rattle.att_lexer.specs.declared.pieces.TheConstants.{MAX_PIECES}
 use Rattle.att_lexer.specs.declared.pieces.Span.{Span}
 use Rattle.att_lexer.specs.declared.pieces.CutFreeze.{CutFreeze}
 use Rattle.att_lexer.specs.declared.pieces.CutFault.{CutFault}
@@ -92,7 +92,7 @@ abbrev pub first_freeze : ℕ → List (List ℕ) → Option CutFreeze
 first_freeze serial [] = None
 first_freeze serial (p ∷ ps) = at_serial serial (freeze_of p) (first_freeze (serial + 1) ps)
 
--- why a text is not cut: there are more than 2,000,000 pieces, or memory ran out
+-- why a text is not cut: there are more pieces than it may have, or memory ran out
 abbrev pub IsCauseOf : List (List ℕ) → CutFault → Type 0
-IsCauseOf pieces (TooManyPieces count) = (count ≡ 2000001) × (2000000 < length pieces)
+IsCauseOf pieces (TooManyPieces count) = (count ≡ MAX_PIECES + 1) × (MAX_PIECES < length pieces)
 IsCauseOf pieces NoMemory = ⊤

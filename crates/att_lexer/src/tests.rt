@@ -6,7 +6,7 @@ use std::test::Fail;
 
 // The pieces of a text, joined by `|`.
 fn shown(rt: &(impl Abort + AllocGlobal), text: &[u8]) -> Result<Vec<u8>, Fail>
-    requires { length text.now ≤ 33554432 }
+    requires { length text.now ≤ MAX_BYTES }
 {
     let cut = cut_pieces(rt.alloc(), text)?;
     let mut all = Vec::new(rt.alloc());

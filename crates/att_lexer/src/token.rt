@@ -240,11 +240,12 @@ fn ends_tokens(b: u8) -> bool
 
 /// Takes the tokens of a piece of fewer than 2^32 bytes, in order, in one walk, in place of those that the list has: its
 /// room is kept from piece to piece. What follows a newline or a `;` outside strings and comments doesn't count; nor do
-/// comments. Where memory is wanting, the list has some tokens in front.
+/// comments. Where memory is wanting, the list has the first few of them.
 pub fn take_tokens(out: &mut TokenList, piece: &[u8]) -> Result<(), AllocError>
     requires { length piece.now < 2 ^ 32 }
     ensures tokens { OnOk result (out.new ≡ tokens_of piece.now) }
     ensures in_order { OnOk result (AreInOrder 0 (length piece.now) out.new) }
+    ensures part { OnErr result ((n : ℕ) × (out.new ≡ take n (tokens_of piece.now))) }
 {
     let text = counted(piece);
     out.clear();

@@ -1,20 +1,12 @@
 // Data: cells and the names in them.
 ghost use Rattle.std.specs.Prelude.{◌≡◌, IfOk};
 ghost use Rattle.insn_ir.specs.declared.entry.Cell.{Cell};
-ghost use Rattle.att_grammar.specs.Directives.{lone_of, difference_of, cell_of, cells_of, data_of};
+ghost use Rattle.att_grammar.specs.Directives.{difference_of, cell_of, cells_of, data_of};
 
 use crate::words::{cell_width, is_number, is_string};
 use att_grammar::{Cursor, Word};
 use insn_ir::{Cell, CellList, DirectiveKind, Name};
 use std::alloc::{AllocError, Global};
-
-#[tactic(auto, unfolding(att_grammar::specs::Directives::lone_of))]
-fn lone<'a>(at: &Cursor<'a>) -> Option<Word<'a>>
-    ensures { result ≡ lone_of at.now }
-{
-    let (name, rest) = at.word()?;
-    if rest.is_at_end() { Some(name) } else { None }
-}
 
 #[tactic(auto, unfolding(att_grammar::specs::Directives::difference_of))]
 fn difference<'a>(at: &Cursor<'a>) -> Option<(Word<'a>, Word<'a>)>
@@ -32,7 +24,7 @@ fn difference<'a>(at: &Cursor<'a>) -> Option<(Word<'a>, Word<'a>)>
 fn cell(alloc: Global, at: &Cursor) -> Result<Cell, AllocError>
     ensures { IfOk result (λ cell. cell ≡ cell_of at.now) }
 {
-    if let Some(name) = lone(at) {
+    if let Some(name) = at.only_word() {
         return Ok(Cell::Sym(Name::from_slice(alloc, name.bytes())?));
     }
     match difference(at) {

@@ -3,13 +3,13 @@ ghost use Rattle.std.specs.Prelude.{◌≡◌, ◌<◌, ◌^◌, length, drop, I
 ghost use Rattle.att_lexer.specs.Tokens.{tokens_of};
 ghost use Rattle.att_grammar.specs.Lexemes.{AreReadable, says_all};
 ghost use Rattle.att_grammar.specs.Notions.{word_of};
-ghost use Rattle.att_grammar.specs.Directives.{or_breaking, aligned_of, filled_of, placed_of, bound_of, named_of, is_assignment, directive_behind, directive_of};
+ghost use Rattle.att_grammar.specs.Directives.{or_breaking, aligned_of, filled_of, placed_of, bound_of, named_of, directive_behind, directive_of};
 
 use crate::data::data;
 use crate::layout::{alignment, named_section, section};
 use crate::symbols::{alias_or_constant, function_end, function_type};
 use crate::words::{is_align, is_cfi, is_cfi_table, is_export, is_inert, is_section, is_set};
-use att_grammar::{Cursor, Seen};
+use att_grammar::Cursor;
 use att_lexer::{Token, TokenList};
 use insn_ir::DirectiveKind;
 use std::alloc::{AllocError, Global};
@@ -110,19 +110,6 @@ fn named(
     }
 }
 
-// Whether the second lexeme is `=`.
-fn is_assignment(at: &Cursor) -> bool
-    ensures { result ≡ is_assignment at.now }
-{
-    let Some((_, rest)) = at.first() else {
-        return false;
-    };
-    match rest.first() {
-        Some((Seen::Mark(b), _)) => b == b'=',
-        Some((Seen::Word(_) | Seen::Number(_) | Seen::Text(_) | Seen::Odd(_), _)) | None => false,
-    }
-}
-
 /// The directive of a piece, whose tokens these are: its first is a word that begins with `.`, or its second is `=`.
 #[tactic(auto, unfolding(att_grammar::specs::Directives::directive_of))]
 pub fn read_directive(
@@ -136,7 +123,7 @@ pub fn read_directive(
 {
     let tokens = tokens.as_slice();
     let at = Cursor::new(piece, tokens);
-    if is_assignment(&at) {
+    if at.is_assignment() {
         return Ok(DirectiveKind::Breaking);
     }
     let [_, operands @ ..] = tokens else {

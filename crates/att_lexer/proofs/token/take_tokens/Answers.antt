@@ -1,7 +1,7 @@
 use Rattle.std.proofs.Common.{◌+◌, length, drop, [], ◌∷◌, sym, ap, ◌∙◌, subst, arith, ◌++◌, append_assoc}
 use Rattle.std.proofs.lemmas.List.{take_rest}
 use Rattle.att_lexer.specs.Tokens.{AreInOrder, tokens_from}
-use Rattle.att_lexer.proofs.TokensLaws.{left_end, left_none, left_blank, left_token_of, all_taken, tokens_of_in_order}
+use Rattle.att_lexer.proofs.TokensLaws.{left_end, left_none, left_blank, left_token_of, all_taken, tokens_of_in_order, part_of}
 use Rattle.att_lexer.proofs.token.take_tokens.Goals as goal
 
 pub loop-at-preserved-then-is_blank : goal.loop-at-preserved-then-is_blank
@@ -43,3 +43,9 @@ returns-after-loop-at-clause-tokens c =
 pub returns-after-loop-at-clause-in_order : goal.returns-after-loop-at-clause-in_order
 returns-after-loop-at-clause-in_order c =
     subst (λ ts. AreInOrder 0 (length c.args.piece.now) ts) (sym (returns-after-loop-at-clause-tokens c)) (tokens_of_in_order c.args.piece.now)
+
+pub returns-in_err-push-clause-part : goal.returns-in_err-push-clause-part
+returns-in_err-push-clause-part c =
+    let rest = tokens_from 0 c.loop-at.at (drop c.loop-at.at c.counted-text.result.now) in
+    part_of c.from_residual.result c.push.new.self rest _
+    (ap (λ l. l ++ rest) c.in_err-push.ensures.err ∙ c.loop-at.invariant.told ∙ ap (tokens_from 0 0) c.counted-text.ensures)
