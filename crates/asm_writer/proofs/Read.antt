@@ -4,7 +4,8 @@ use Rattle.insn_ir.specs.declared.insn.Insn.{Insn}
 use Rattle.insn_ir.specs.declared.entry.EntryKind.{EntryKind}
 use Rattle.insn_ir.specs.declared.entry.DirectiveKind.{DirectiveKind}
 use Rattle.insn_ir.specs.Profile.{IsInstruction}
-use Rattle.att_grammar.specs.Canonical.{insn_text, align_text, IsBelow}
+use Rattle.att_grammar.specs.Directives.{IsBelow}
+use Rattle.att_grammar.specs.Canonical.{insn_text, align_text}
 use Rattle.att_grammar.specs.Entries.{kind_of_piece}
 use Rattle.att_grammar.proofs.CanonicalLaw.{insn_text_read, align_text_read}
 

@@ -12,9 +12,7 @@ use Rattle.insn_ir.specs.declared.entry.EntryKind.{EntryKind}
 use Rattle.insn_ir.specs.declared.insn.Insn.{Insn}
 use Rattle.att_lexer.specs.Bytes.{is_blank, is_digit, is_letter, is_symbol_byte, is_symbol_start, is_calm, is_stop, is_freeze_byte}
 use Rattle.att_lexer.specs.Tokens.{run_token, token_of, ends_tokens, tokens_from, is_first_label, tokens_of, AreInOrder}
-use Rattle.att_lexer.specs.Scan.{lead_after, is_name}
-use Rattle.att_lexer.specs.declared.scan.Lead.{Lead}
-use Rattle.att_lexer.specs.declared.scan.Lead.TheVariants.{Blanks, Symbol, Digits, Other}
+use Rattle.att_lexer.specs.Scan.{lead_after, is_name, Lead, Blanks, Symbol, Digits, Other}
 use Rattle.att_lexer.specs.declared.token.Token.{Token}
 use Rattle.att_lexer.specs.declared.token.TokenKind.TheVariants.{Mark}
 use Rattle.att_lexer.proofs.ScanLaws.{other_stays}

@@ -1,35 +1,27 @@
 // The entry that a piece is.
-ghost use Rattle.std.specs.Prelude.{◌≡◌, ◌<◌, ◌≤◌, ◌^◌, length, IfOk, ◌++◌, ◌∷◌, [], OnOk};
+ghost use Rattle.std.specs.Prelude.{◌≡◌, ◌<◌, ◌≤◌, ◌^◌, length, IfOk, ◌++◌, ◌∷◌, [], OnOk, OnErr};
 ghost use Rattle.std.specs.List.{prefix_len};
-ghost use Rattle.att_lexer.specs.Bytes.{is_blank, is_symbol_byte};
+ghost use Rattle.att_lexer.specs.Bytes.{is_blank};
 ghost use Rattle.att_lexer.specs.Tokens.{tokens_of};
 ghost use Rattle.att_grammar.specs.Lexemes.{says_all};
-ghost use Rattle.att_grammar.specs.Directives.{is_assignment};
 ghost use Rattle.att_reader.specs.Made.{entry};
-ghost use Rattle.att_grammar.specs.Entries.{only_word, label_of, without_blanks, is_apart, stands_first, is_inline_mark, is_directive, insn_or_opaque, statement_of, unlabelled, kind_of_piece, IsOfProfile};
+ghost use Rattle.att_grammar.specs.Entries.{label_of, without_blanks, is_apart, stands_first, is_inline_mark, is_directive, insn_or_opaque, statement_of, unlabelled, kind_of_piece, IsOfProfile};
 
 use crate::instructions::instruction;
 use crate::known::KnownLines;
 use crate::opaque::opaque;
-use att_grammar::{Cursor, Seen, Word};
-use att_lexer::{TokenList, is_first_label, take_tokens};
+use att_grammar::{Cursor, Seen};
+use att_lexer::{TokenList, is_blank, is_first_label, is_symbol_byte, take_tokens};
 use directive_model::read_directive;
 use insn_ir::{Entry, EntryKind, Name};
 use std::alloc::{AllocError, Global};
 
-// The symbol that stands alone.
-fn only_word<'a>(at: &Cursor<'a>) -> Option<Word<'a>>
-    ensures { result ≡ only_word at.now }
-{
-    let (name, rest) = at.word()?;
-    if rest.is_at_end() { Some(name) } else { None }
-}
-
 fn label(alloc: Global, out: &mut Vec<Entry>, serial: u32, at: &Cursor) -> Result<(), AllocError>
     requires room { out.old.len < out.old.cap }
-    ensures { OnOk result (out.new.items ≡ out.old.items ++ entry serial (label_of at.now) ∷ []) }
+    ensures ok { OnOk result (out.new.items ≡ out.old.items ++ entry serial (label_of at.now) ∷ []) }
+    ensures err { OnErr result (out.new.items ≡ out.old.items) }
 {
-    match only_word(at) {
+    match at.only_word() {
         Some(name) => {
             let name = Name::from_slice(alloc, name.bytes())?;
             out.push_reserved(Entry {
@@ -49,13 +41,6 @@ fn blanks(bytes: &[u8]) -> usize
     bytes.iter().take_while(|b| is_blank(**b)).count()
 }
 
-#[tactic(auto, unfolding(att_lexer::specs::Bytes::is_blank))]
-fn is_blank(b: u8) -> bool
-    ensures { result ≡ is_blank b }
-{
-    b == b' ' || b == b'\t' || b == b'\r'
-}
-
 fn without_blanks(bytes: &[u8]) -> &[u8]
     ensures { result.now ≡ without_blanks bytes.now }
 {
@@ -70,19 +55,6 @@ fn is_inline_mark(piece: &[u8]) -> bool
 {
     let text = without_blanks(piece);
     stands_first(b"#APP", text) || stands_first(b"#NO_APP", text)
-}
-
-#[tactic(auto, unfolding(att_lexer::specs::Bytes::is_symbol_byte, att_lexer::specs::Bytes::is_letter, att_lexer::specs::Bytes::is_digit))]
-fn is_symbol_byte(b: u8) -> bool
-    ensures { result ≡ is_symbol_byte b }
-{
-    (b >= b'A' && b <= b'Z')
-        || (b >= b'a' && b <= b'z')
-        || (b >= b'0' && b <= b'9')
-        || b == b'_'
-        || b == b'.'
-        || b == b'$'
-        || b >= 128
 }
 
 // Whether no symbol byte stands in front.
@@ -100,18 +72,6 @@ fn stands_first(front: &[u8], bytes: &[u8]) -> bool
     ensures { result ≡ stands_first front.now bytes.now }
 {
     bytes.starts_with(front) && is_apart(&bytes[front.len()..])
-}
-
-fn is_assignment(at: &Cursor) -> bool
-    ensures { result ≡ is_assignment at.now }
-{
-    let Some((_, rest)) = at.first() else {
-        return false;
-    };
-    match rest.first() {
-        Some((Seen::Mark(b), _)) => b == b'=',
-        Some((Seen::Word(_) | Seen::Number(_) | Seen::Text(_) | Seen::Odd(_), _)) | None => false,
-    }
 }
 
 // Whether a word that begins with `.` stands in front.
@@ -142,9 +102,10 @@ fn statement(
     requires tokens { tokens.now ≡ tokens_of piece.now }
     requires lexemes { at.now ≡ says_all piece.now tokens.now }
     requires room { out.old.len < out.old.cap }
-    ensures { OnOk result (out.new.items ≡ out.old.items ++ entry serial (statement_of piece.now tokens.now) ∷ []) }
+    ensures ok { OnOk result (out.new.items ≡ out.old.items ++ entry serial (statement_of piece.now tokens.now) ∷ []) }
+    ensures err { OnErr result (out.new.items ≡ out.old.items) }
 {
-    if is_assignment(at) || is_directive(at) {
+    if at.is_assignment() || is_directive(at) {
         let kind = read_directive(alloc, piece, tokens)?;
         out.push_reserved(Entry {
             serial,
@@ -165,7 +126,8 @@ fn line(
 ) -> Result<(), AllocError>
     requires length { length piece.now < 2 ^ 32 }
     requires room { out.old.len < out.old.cap }
-    ensures { OnOk result (out.new.items ≡ out.old.items ++ entry serial (kind_of_piece piece.now) ∷ []) }
+    ensures ok { OnOk result (out.new.items ≡ out.old.items ++ entry serial (kind_of_piece piece.now) ∷ []) }
+    ensures err { OnErr result (out.new.items ≡ out.old.items) }
 {
     take_tokens(tokens, piece)?;
     let all = tokens.as_slice();
@@ -185,15 +147,15 @@ fn line(
     Ok(())
 }
 
-/// Reads entries one after another: it keeps the room for the tokens of a line, and what lines without a symbol are, which
-/// are read once.
+/// Reads entries one after another: it keeps the room for the tokens of a line, and what some of the lines without a
+/// symbol are that it read before, each in the place of its hash until another line takes that place.
 #[derive(Drop)]
 pub struct EntryReader {
     tokens: TokenList,
     known: KnownLines,
 }
 
-// Appends the entry of a line that isn't known, and keeps what it is.
+// Appends the entry of a line that isn't known, and keeps what it is where there is memory for it.
 fn new_line(
     alloc: Global,
     reader: &mut EntryReader,
@@ -203,11 +165,12 @@ fn new_line(
 ) -> Result<(), AllocError>
     requires length { length piece.now < 2 ^ 32 }
     requires room { out.old.len < out.old.cap }
-    ensures { OnOk result (out.new.items ≡ out.old.items ++ entry serial (kind_of_piece piece.now) ∷ []) }
+    ensures ok { OnOk result (out.new.items ≡ out.old.items ++ entry serial (kind_of_piece piece.now) ∷ []) }
+    ensures err { OnErr result (out.new.items ≡ out.old.items) }
 {
     line(alloc, &mut reader.tokens, piece, out, serial)?;
     if let Some(made) = out.last() {
-        reader.known.note(alloc, piece, &made.kind)?;
+        reader.known.note(alloc, piece, &made.kind);
     }
     Ok(())
 }
@@ -221,8 +184,9 @@ impl EntryReader {
         }
     }
 
-    /// Appends the entry that a piece is, as [`read_entry`] gives it: it is made where it is to stay. After an `Err` the
-    /// reader may be used again.
+    /// Appends the entry that a piece is, as [`read_entry`] gives it: it is made where it is to stay. Where memory is wanting
+    /// `out` has the entries that it had, and the reader may be used again. Lines that it has no memory to keep are read
+    /// anew when they come again.
     pub fn read_onto(
         &mut self,
         alloc: Global,
@@ -231,7 +195,8 @@ impl EntryReader {
         serial: u32,
     ) -> Result<(), AllocError>
         requires { length piece.now < 2 ^ 32 }
-        ensures { OnOk result (out.new.items ≡ out.old.items ++ entry serial (kind_of_piece piece.now) ∷ []) }
+        ensures ok { OnOk result (out.new.items ≡ out.old.items ++ entry serial (kind_of_piece piece.now) ∷ []) }
+        ensures err { OnErr result (out.new.items ≡ out.old.items) }
     {
         out.reserve(1)?;
         match self.known.find(piece) {
@@ -244,7 +209,8 @@ impl EntryReader {
     }
 }
 
-/// The entry that a piece is, with the serial that is given. An instruction that it is, is one of the profile.
+/// The entry that a piece is, with the serial that is given. An instruction that it is, is one of the profile, and an
+/// alignment that it is, has a power of at most 12.
 pub fn read_entry(alloc: Global, piece: &[u8], serial: u32) -> Result<Entry, AllocError>
     requires { length piece.now < 2 ^ 32 }
     ensures definition { IfOk result (λ entry. entry ≡ record { serial = serial; kind = kind_of_piece piece.now }) }

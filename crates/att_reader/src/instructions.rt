@@ -1,5 +1,5 @@
 // Instructions: a mnemonic and its operands.
-ghost use Rattle.std.specs.Prelude.{◌≡◌, ◌&&◌, [], ◌∷◌, IfOk, option_map, bytes_eq, codes, ◌<◌, ◌++◌, OnOk};
+ghost use Rattle.std.specs.Prelude.{◌≡◌, ◌&&◌, [], ◌∷◌, IfOk, option_map, bytes_eq, codes, ◌<◌, ◌++◌, OnOk, OnErr};
 ghost use Rattle.insn_ir.specs.Mnemonics.{has_width};
 ghost use Rattle.att_grammar.specs.Notions.{or_else, is_among};
 ghost use Rattle.att_reader.specs.Made.{entry_of};
@@ -117,7 +117,8 @@ fn plain(
     whole: &Cursor,
 ) -> Result<(), AllocError>
     requires room { out.old.len < out.old.cap }
-    ensures { OnOk result (out.new.items ≡ out.old.items ++ entry_of serial (plain_of hit at.now) whole.now ∷ []) }
+    ensures ok { OnOk result (out.new.items ≡ out.old.items ++ entry_of serial (plain_of hit at.now) whole.now ∷ []) }
+    ensures err { OnErr result (out.new.items ≡ out.old.items) }
 {
     let found = operands(at);
     let Some(operands) = &found else {
@@ -168,7 +169,8 @@ fn target(
     whole: &Cursor,
 ) -> Result<(), AllocError>
     requires room { out.old.len < out.old.cap }
-    ensures { OnOk result (out.new.items ≡ out.old.items ++ entry_of serial (target_of op at.now) whole.now ∷ []) }
+    ensures ok { OnOk result (out.new.items ≡ out.old.items ++ entry_of serial (target_of op at.now) whole.now ∷ []) }
+    ensures err { OnErr result (out.new.items ≡ out.old.items) }
 {
     match lone_symbol(at) {
         Some(symbol) => jump_to(alloc, out, serial, op, &symbol),
@@ -187,7 +189,8 @@ fn starred(
     whole: &Cursor,
 ) -> Result<(), AllocError>
     requires room { out.old.len < out.old.cap }
-    ensures { OnOk result (out.new.items ≡ out.old.items ++ entry_of serial (starred_of op at.now) whole.now ∷ []) }
+    ensures ok { OnOk result (out.new.items ≡ out.old.items ++ entry_of serial (starred_of op at.now) whole.now ∷ []) }
+    ensures err { OnErr result (out.new.items ≡ out.old.items) }
 {
     let Some(operand) = lone_operand(at) else {
         return opaque(alloc, out, serial, whole);
@@ -223,7 +226,8 @@ fn jump(
     whole: &Cursor,
 ) -> Result<(), AllocError>
     requires room { out.old.len < out.old.cap }
-    ensures { OnOk result (out.new.items ≡ out.old.items ++ entry_of serial (jump_of op name.now at.now) whole.now ∷ []) }
+    ensures ok { OnOk result (out.new.items ≡ out.old.items ++ entry_of serial (jump_of op name.now at.now) whole.now ∷ []) }
+    ensures err { OnErr result (out.new.items ≡ out.old.items) }
 {
     match at.expect(b'*') {
         Some(rest) => match star_op(name) {
@@ -249,7 +253,8 @@ fn notrack(
     whole: &Cursor,
 ) -> Result<(), AllocError>
     requires room { out.old.len < out.old.cap }
-    ensures { OnOk result (out.new.items ≡ out.old.items ++ entry_of serial (notrack_of at.now) whole.now ∷ []) }
+    ensures ok { OnOk result (out.new.items ≡ out.old.items ++ entry_of serial (notrack_of at.now) whole.now ∷ []) }
+    ensures err { OnErr result (out.new.items ≡ out.old.items) }
 {
     match behind_notrack(at) {
         Some(rest) => starred(alloc, out, serial, Op::JmpStarNotrack, &rest, whole),
@@ -266,7 +271,8 @@ fn rep(
     whole: &Cursor,
 ) -> Result<(), AllocError>
     requires room { out.old.len < out.old.cap }
-    ensures { OnOk result (out.new.items ≡ out.old.items ++ entry_of serial (rep_of at.now) whole.now ∷ []) }
+    ensures ok { OnOk result (out.new.items ≡ out.old.items ++ entry_of serial (rep_of at.now) whole.now ∷ []) }
+    ensures err { OnErr result (out.new.items ≡ out.old.items) }
 {
     let Some(rest) = at.this_word(b"ret") else {
         return opaque(alloc, out, serial, whole);
@@ -300,7 +306,8 @@ fn prefixed(
     whole: &Cursor,
 ) -> Result<(), AllocError>
     requires room { out.old.len < out.old.cap }
-    ensures { OnOk result (out.new.items ≡ out.old.items ++ entry_of serial (prefixed_of name.now at.now) whole.now ∷ []) }
+    ensures ok { OnOk result (out.new.items ≡ out.old.items ++ entry_of serial (prefixed_of name.now at.now) whole.now ∷ []) }
+    ensures err { OnErr result (out.new.items ≡ out.old.items) }
 {
     if is_notrack(name) {
         notrack(alloc, out, serial, at, whole)
@@ -321,7 +328,8 @@ pub fn instruction(
     whole: &Cursor,
 ) -> Result<(), AllocError>
     requires room { out.old.len < out.old.cap }
-    ensures { OnOk result (out.new.items ≡ out.old.items ++ entry_of serial (instruction_of whole.now) whole.now ∷ []) }
+    ensures ok { OnOk result (out.new.items ≡ out.old.items ++ entry_of serial (instruction_of whole.now) whole.now ∷ []) }
+    ensures err { OnErr result (out.new.items ≡ out.old.items) }
 {
     let Some((name, rest)) = whole.word() else {
         return opaque(alloc, out, serial, whole);

@@ -141,19 +141,18 @@ impl KnownLines {
         Ok(())
     }
 
-    /// Keeps what a line is, if it names no symbol. Of a long line an instruction is kept with the `#` of the comment behind it,
-    /// whatever the comment says.
-    pub fn note(&mut self, alloc: Global, line: &[u8], kind: &EntryKind) -> Result<(), AllocError>
+    /// Keeps what a line is, if it names no symbol and there is memory for it. Of a long line an instruction is kept with the
+    /// `#` of the comment behind it, whatever the comment says.
+    pub fn note(&mut self, alloc: Global, line: &[u8], kind: &EntryKind)
         requires { kind.now ≡ kind_of_piece line.now }
     {
+        // A line that isn't kept is read anew when it comes again: want of memory is no fault here.
         if line.len() <= LONGEST {
-            return self.keep(alloc, line, kind);
-        }
-        if let EntryKind::Insn(_) = kind
+            let _ = self.keep(alloc, line, kind);
+        } else if let EntryKind::Insn(_) = kind
             && let Some(front) = up_to_comment(line)
         {
-            return self.keep(alloc, front, kind);
+            let _ = self.keep(alloc, front, kind);
         }
-        Ok(())
     }
 }

@@ -1,5 +1,5 @@
 // Lines that aren't in the grammar.
-ghost use Rattle.std.specs.Prelude.{◌≡◌, IfOk, ◌<◌, ◌++◌, ◌∷◌, [], OnOk};
+ghost use Rattle.std.specs.Prelude.{◌≡◌, IfOk, ◌<◌, ◌++◌, ◌∷◌, [], OnOk, OnErr};
 ghost use Rattle.att_grammar.specs.Entries.{opaque};
 ghost use Rattle.att_reader.specs.Made.{entry};
 
@@ -15,7 +15,8 @@ pub fn opaque(
     whole: &Cursor,
 ) -> Result<(), AllocError>
     requires room { out.old.len < out.old.cap }
-    ensures { OnOk result (out.new.items ≡ out.old.items ++ entry serial (opaque whole.now) ∷ []) }
+    ensures ok { OnOk result (out.new.items ≡ out.old.items ++ entry serial (opaque whole.now) ∷ []) }
+    ensures err { OnErr result (out.new.items ≡ out.old.items) }
 {
     let words = whole.words(alloc)?;
     out.push_reserved(Entry {

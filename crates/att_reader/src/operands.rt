@@ -1,10 +1,10 @@
 // Operands.
 ghost use Rattle.std.specs.Prelude.{◌≡◌, [], ◌∷◌, Some, None, IfSome, ◌≤◌, ◌<◌, ◌^◌};
 ghost use Rattle.insn_ir.specs.declared.op.Reg.TheVariants.{Rsp};
-ghost use Rattle.insn_ir.specs.Machine.{same_reg};
 ghost use Rattle.att_grammar.specs.Operands.{register_of, wide_of, index_of, is_scale, scale_of, indexed_of, rip_of, based_of, paren_of, displaced, displacement_of, place_of, is_symbolic, is_address, address_behind, segment_of, address_of, immediate_of, operand_of, next_of, operands_of};
 
 use crate::expressions::expression;
+use crate::forms::same_reg;
 use crate::registers::register_named;
 use att_grammar::{Address, Cursor, Displacement, Operand, Operands, Paren, Sum, Symbol};
 use insn_ir::{Base, Reg, Width};
@@ -35,31 +35,7 @@ fn index<'a>(at: &Cursor<'a>) -> Option<(Reg, Cursor<'a>)>
     ensures { result ≡ index_of at.now }
 {
     let (r, rest) = wide(at)?;
-    if is_rsp(r) { None } else { Some((r, rest)) }
-}
-
-/// Whether a register is `%rsp`.
-pub fn is_rsp(r: Reg) -> bool
-    ensures { result ≡ same_reg r Rsp }
-{
-    match r {
-        Reg::Rsp => true,
-        Reg::Rax
-        | Reg::Rcx
-        | Reg::Rdx
-        | Reg::Rbx
-        | Reg::Rbp
-        | Reg::Rsi
-        | Reg::Rdi
-        | Reg::R8
-        | Reg::R9
-        | Reg::R10
-        | Reg::R11
-        | Reg::R12
-        | Reg::R13
-        | Reg::R14
-        | Reg::R15 => false,
-    }
+    if same_reg(r, Reg::Rsp) { None } else { Some((r, rest)) }
 }
 
 // A scale that may be written, and `)`.

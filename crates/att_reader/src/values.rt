@@ -1,5 +1,5 @@
 // Instructions made of operands; names are copied only here.
-ghost use Rattle.std.specs.Prelude.{◌≡◌, IfOk, pos, ◌<◌, ◌++◌, ◌∷◌, [], OnOk};
+ghost use Rattle.std.specs.Prelude.{◌≡◌, IfOk, pos, ◌<◌, ◌++◌, ◌∷◌, [], OnOk, OnErr};
 ghost use Rattle.insn_ir.specs.declared.op.Width.TheVariants.{Q};
 ghost use Rattle.insn_ir.specs.declared.insn.Arg.{Arg};
 ghost use Rattle.insn_ir.specs.declared.entry.EntryKind.{EntryKind};
@@ -120,7 +120,8 @@ fn with_one(
     a: &Operand,
 ) -> Result<(), AllocError>
     requires room { out.old.len < out.old.cap }
-    ensures { OnOk result (out.new.items ≡ out.old.items ++ entry serial (EntryKind.Insn (insn_of op width (Operands.One a.now))) ∷ []) }
+    ensures ok { OnOk result (out.new.items ≡ out.old.items ++ entry serial (EntryKind.Insn (insn_of op width (Operands.One a.now))) ∷ []) }
+    ensures err { OnErr result (out.new.items ≡ out.old.items) }
 {
     let a = arg(alloc, width, a)?;
     if is_shift(op) {
@@ -144,7 +145,8 @@ fn with_two(
     b: &Operand,
 ) -> Result<(), AllocError>
     requires room { out.old.len < out.old.cap }
-    ensures { OnOk result (out.new.items ≡ out.old.items ++ entry serial (EntryKind.Insn (insn_of op width (Operands.Two a.now b.now))) ∷ []) }
+    ensures ok { OnOk result (out.new.items ≡ out.old.items ++ entry serial (EntryKind.Insn (insn_of op width (Operands.Two a.now b.now))) ∷ []) }
+    ensures err { OnErr result (out.new.items ≡ out.old.items) }
 {
     let first = arg(alloc, width, a)?;
     let second = arg(alloc, width, b)?;
@@ -168,7 +170,8 @@ pub fn insn(
     operands: &Operands,
 ) -> Result<(), AllocError>
     requires room { out.old.len < out.old.cap }
-    ensures { OnOk result (out.new.items ≡ out.old.items ++ entry serial (EntryKind.Insn (insn_of op width operands.now)) ∷ []) }
+    ensures ok { OnOk result (out.new.items ≡ out.old.items ++ entry serial (EntryKind.Insn (insn_of op width operands.now)) ∷ []) }
+    ensures err { OnErr result (out.new.items ≡ out.old.items) }
 {
     match operands {
         Operands::Nothing => {
@@ -205,7 +208,8 @@ pub fn jump_to(
     symbol: &Symbol,
 ) -> Result<(), AllocError>
     requires room { out.old.len < out.old.cap }
-    ensures { OnOk result (out.new.items ≡ out.old.items ++ entry serial (EntryKind.Insn (insn op Q (Arg.Code (atom_of symbol.now (pos 0))) Arg.Absent Arg.Absent)) ∷ []) }
+    ensures ok { OnOk result (out.new.items ≡ out.old.items ++ entry serial (EntryKind.Insn (insn op Q (Arg.Code (atom_of symbol.now (pos 0))) Arg.Absent Arg.Absent)) ∷ []) }
+    ensures err { OnErr result (out.new.items ≡ out.old.items) }
 {
     let to = Arg::Code(atom(alloc, symbol, 0)?);
     put(out, serial, op, Width::Q, to, Arg::Absent, Arg::Absent);

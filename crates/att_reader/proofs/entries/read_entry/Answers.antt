@@ -15,6 +15,6 @@ pub returns-clause-profile : goal.returns-clause-profile
 returns-clause-profile c =
     let piece = c.args.piece.now in
     let e = entry c.args.serial (kind_of_piece piece) in
-    let made : c.line.new.out.items ≡ e ∷ [] = c.in_ok-line.ensures ∙ ap (λ l. l ++ e ∷ []) c.in_ok-made.ensures.items in
+    let made : c.line.new.out.items ≡ e ∷ [] = c.in_ok-line.ensures.ok ∙ ap (λ l. l ++ e ∷ []) c.in_ok-made.ensures.items in
     let last = last_is c.take_last.new.self.items c.take_last.result e (sym c.take_last.ensures.items ∙ made) in
     subst IsOfProfile (sym (ap (λ (x : Entry). x.kind) last)) (kind_is piece)
