@@ -35,7 +35,11 @@ fn index<'a>(at: &Cursor<'a>) -> Option<(Reg, Cursor<'a>)>
     ensures { result ≡ index_of at.now }
 {
     let (r, rest) = wide(at)?;
-    if same_reg(r, Reg::Rsp) { None } else { Some((r, rest)) }
+    if same_reg(r, Reg::Rsp) {
+        None
+    } else {
+        Some((r, rest))
+    }
 }
 
 // A scale that may be written, and `)`.
