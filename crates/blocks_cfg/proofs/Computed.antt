@@ -14,11 +14,11 @@ use Rattle.blocks_cfg.proofs.Solution.{least, among_is, is_among_it, live_is_fed
 
 -- ---- tests
 
-and_left : (a b : Bool) → (a && b) ≡ true → a ≡ true
+pub and_left : (a b : Bool) → (a && b) ≡ true → a ≡ true
 and_left true b h = refl
 and_left false b h = cc
 
-and_right : (a b : Bool) → (a && b) ≡ true → b ≡ true
+pub and_right : (a b : Bool) → (a && b) ≡ true → b ≡ true
 and_right true b h = h
 and_right false b h = cc
 
@@ -62,7 +62,7 @@ each_edge_below t f (suc n) = each_of (t n) (successors f n) && each_edge_below 
 abbrev pub each_edge : (ℕ → ℕ → Bool) → Code → Bool
 each_edge t f = each_edge_below t f (length (places f.lines))
 
-below_or_last : (p n : ℕ) → p < suc n → (p < n) ⊎ (p ≡ n)
+pub below_or_last : (p n : ℕ) → p < suc n → (p < n) ⊎ (p ≡ n)
 below_or_last zero zero lt = inr refl
 below_or_last zero (suc n) lt = inl (omega arith)
 below_or_last (suc p) zero lt = absurd (omega arith)

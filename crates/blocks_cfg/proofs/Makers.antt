@@ -94,7 +94,7 @@ int_tells (negsuc a) (negsuc b) =
 int_tells (pos a) (negsuc b) = never (λ h. cc)
 int_tells (negsuc a) (pos b) = never (λ h. cc)
 
-bytes_tell : (a b : List ℕ) → Tells (bytes_eq a b) (a ≡ b)
+pub bytes_tell : (a b : List ℕ) → Tells (bytes_eq a b) (a ≡ b)
 bytes_tell a b = let d = bytes_eq-Decides a b in record { true_is = d.0; is_true = d.1 }
 
 spec_tells : (a b : Option (List ℕ)) → Tells (spec_is a b) (a ≡ b)
