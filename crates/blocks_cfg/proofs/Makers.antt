@@ -19,7 +19,7 @@ use Rattle.insn_ir.specs.Code.{Code, Place, One, place_at}
 use Rattle.insn_effects.specs.Footprint.{InReg}
 use Rattle.insn_effects.specs.Operations.{footprint}
 use Rattle.insn_effects.proofs.Fits.{same_reg_is}
-use Rattle.blocks_cfg.specs.Cells.{int_is, spec_is, disp_is, base_is, index_is, bool_is, mem_is, MemCell, is_early}
+use Rattle.blocks_cfg.specs.Cells.{int_is, spec_is, disp_is, base_is, index_is, bool_is, mem_is, MemCell, is_wide, is_early}
 use Rattle.blocks_cfg.specs.Rules.{TestOf, InsnAt, ClearsUpper, MarksResult, MarksLogic, MakesLogic, MakesFlags, is_of_address, MakesCell, Counts, upper_zero, flags_of, clear_flags_of, cell_in}
 use Rattle.blocks_cfg.specs.Facts.{Holds}
 use Rattle.blocks_cfg.specs.Fed.{Decides}
@@ -314,7 +314,7 @@ abbrev pub stores_cell : MemCell → Reg → Insn → Bool
 stores_cell c q i = is_reg q i.a && is_mem c.mem i.b
 
 abbrev pub makes_cell : MemCell → Reg → Insn → Bool
-makes_cell c q i = is_mov i.op && (same_size i.width c.width && (loads_cell c q i || stores_cell c q i))
+makes_cell c q i = is_mov i.op && (same_size i.width c.width && ((loads_cell c q i || stores_cell c q i) && is_wide c.width))
 
 not_tells : (b : Bool) → Tells (not b) (b ≡ false)
 not_tells true = never (λ h. cc)
@@ -323,8 +323,8 @@ not_tells false = record { true_is = λ h. refl; is_true = λ h. refl }
 makes_cell_tells : (c : MemCell) (q : Reg) (i : Insn) → Tells (makes_cell c q i) (MakesCell c q i)
 makes_cell_tells c q i =
     record {
-      true_is = λ h. let k = nested.true_is h in (k.0, k.1.0, ⊎_elim (λ l. inl (l.0, l.1.0, l.1.1)) inr k.1.1);
-      is_true = λ h. nested.is_true (h.0, (h.1, ⊎_elim (λ l. inl (l.0, (l.1, l.2))) inr h.2));
+      true_is = λ h. let k = nested.true_is h in (k.0, k.1.0, ⊎_elim (λ l. inl (l.0, l.1.0, l.1.1)) inr k.1.1.0, k.1.1.1);
+      is_true = λ h. nested.is_true (h.0, (h.1, (⊎_elim (λ l. inl (l.0, (l.1, l.2))) inr h.2, h.3)));
     }
   where
     loads : Tells (loads_cell c q i) ((i.a ≡ Arg.Mem c.mem) × ((i.b ≡ Arg.Reg q) × (is_of_address c.mem q ≡ false)))
@@ -335,10 +335,11 @@ makes_cell_tells c q i =
     stores : Tells (stores_cell c q i) ((i.a ≡ Arg.Reg q) × (i.b ≡ Arg.Mem c.mem))
     stores = both_tell (is_reg q i.a) (is_mem c.mem i.b) (is_reg_tells q i.a) (is_mem_tells c.mem i.b)
 
-    nested : Tells (makes_cell c q i) ((i.op ≡ Op.Mov) × ((i.width ≡ c.width) × (((i.a ≡ Arg.Mem c.mem) × ((i.b ≡ Arg.Reg q) × (is_of_address c.mem q ≡ false))) ⊎ ((i.a ≡ Arg.Reg q) × (i.b ≡ Arg.Mem c.mem)))))
+    nested : Tells (makes_cell c q i) ((i.op ≡ Op.Mov) × ((i.width ≡ c.width) × ((((i.a ≡ Arg.Mem c.mem) × ((i.b ≡ Arg.Reg q) × (is_of_address c.mem q ≡ false))) ⊎ ((i.a ≡ Arg.Reg q) × (i.b ≡ Arg.Mem c.mem))) × (is_wide c.width ≡ true))))
     nested =
         both_tell (is_mov i.op) _ (is_mov_tells i.op)
-        (both_tell (same_size i.width c.width) _ (width_tells i.width c.width) (either_tells (loads_cell c q i) (stores_cell c q i) loads stores))
+        (both_tell (same_size i.width c.width) _ (width_tells i.width c.width)
+        (both_tell (loads_cell c q i || stores_cell c q i) (is_wide c.width) (either_tells (loads_cell c q i) (stores_cell c q i) loads stores) (itself (is_wide c.width))))
 
 abbrev pub counts : Code → (ℕ → ℕ) → MemCell → ℕ → ℕ → Bool
 counts f stretch c p k = is_early f c || nat_eq (stretch k) (stretch p)

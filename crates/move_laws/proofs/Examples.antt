@@ -148,6 +148,18 @@ sub_and_add = refl
 sub_and_more : merged (summed Op.Sub) 0 1 Rdi Q (negsuc 7) (pos 16) ≡ code (two Op.Add Q (num 8) (reg Rdi) ∷ two Op.Mov Q (reg Rdi) (reg Rax) ∷ ret ∷ [])
 sub_and_more = refl
 
+-- at the limits of an operand: `subq $-2147483648, %rdi / addq $-1, %rdi` is `addq $2147483647, %rdi`, and
+-- `addq $-2147483647, %rdi / addq $-1, %rdi` is `addq $-2147483648, %rdi`
+greatest_sum : sum_of Rdi Q (opposite (negsuc 2147483647) +ℤ negsuc 0) ≡ with_two Op.Add Q (num 2147483647) (reg Rdi)
+greatest_sum = refl
+
+least_sum : sum_of Rdi Q (negsuc 2147483646 +ℤ negsuc 0) ≡ with_two Op.Add Q (Arg.Imm (Imm.Num (negsuc 2147483647))) (reg Rdi)
+least_sum = refl
+
+-- one more is right as a sum, and no operand: that the sum fits is the rule's to ask
+sum_beyond : sum_of Rdi Q (pos 2147483647 +ℤ pos 1) ≡ with_two Op.Add Q (num 2147483648) (reg Rdi)
+sum_beyond = refl
+
 -- `addl $1, %edi / X / addl $1, %edi / ret`
 abbrev around : Line → Code
 around x = code (two Op.Add L (num 1) (reg Rdi) ∷ x ∷ two Op.Add L (num 1) (reg Rdi) ∷ ret ∷ [])
