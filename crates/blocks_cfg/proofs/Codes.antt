@@ -1,10 +1,10 @@
 -- Short names for the lines of small codes, for the cases that compute definitions.
-use Rattle.std.specs.Prelude.{ℕ, Bool, true, false, List, [], ◌∷◌, Option, Some, None, ℤ, pos, negsuc, codes}
+use Rattle.std.specs.Prelude.{ℕ, true, false, List, [], ◌∷◌, Some, None, pos, codes}
 use Rattle.insn_ir.specs.declared.op.Reg.{Reg}
 use Rattle.insn_ir.specs.declared.op.Cond.{Cond}
 use Rattle.insn_ir.specs.declared.op.Op.{Op}
 use Rattle.insn_ir.specs.declared.op.Width.{Width}
-use Rattle.insn_ir.specs.declared.op.Width.TheVariants.{B, W, L, Q}
+use Rattle.insn_ir.specs.declared.op.Width.TheVariants.{Q}
 use Rattle.insn_ir.specs.declared.insn.Atom.{Atom}
 use Rattle.insn_ir.specs.declared.insn.Disp.{Disp}
 use Rattle.insn_ir.specs.declared.insn.Base.{Base}
@@ -12,7 +12,7 @@ use Rattle.insn_ir.specs.declared.insn.Mem.{Mem}
 use Rattle.insn_ir.specs.declared.insn.Imm.{Imm}
 use Rattle.insn_ir.specs.declared.insn.Arg.{Arg}
 use Rattle.insn_ir.specs.declared.insn.Insn.{Insn}
-use Rattle.insn_ir.specs.Machine.{Table, Absolute}
+use Rattle.insn_ir.specs.Machine.{Absolute}
 use Rattle.insn_ir.specs.Code.{Code, One, Line, Mark, Do}
 
 -- ---- operands

@@ -1,16 +1,16 @@
 -- Least sets by computation: a list of places that solves the equations and that a few rounds reach is the least set. So a
 -- worked case is one test that computes.
-use Rattle.std.proofs.Common.{◌≡◌, ◌⊎◌, ℕ, zero, suc, ◌<◌, Bool, true, false, not, ◌&&◌, ◌||◌, cond, List, [], ◌∷◌, ◌++◌, length, Option, Some, None, inl, inr, ⊎_elim, refl, sym, ap, subst, T, eqb→eq, eq-eqb, arith}
+use Rattle.std.proofs.Common.{◌≡◌, ◌⊎◌, ℕ, zero, suc, ◌<◌, Bool, true, false, not, ◌&&◌, ◌||◌, List, [], ◌∷◌, ◌++◌, length, Option, Some, None, inl, inr, ⊎_elim, refl, sym, ap, subst, T, eqb→eq, arith}
 use Rattle.std.proofs.lemmas.Option.{slice_get_within}
-use Rattle.std.specs.Prelude.{nat_eq, slice_get, filter}
+use Rattle.std.specs.Prelude.{nat_eq}
 use Rattle.std.specs.List.{list_any}
 use Rattle.insn_ir.specs.Code.{Code, Place, places, place_at}
 use Rattle.insn_effects.specs.Footprint.{Loc}
 use Rattle.blocks_cfg.specs.Flow.{IsAmong, successors_by, successors, IsReached}
 use Rattle.blocks_cfg.specs.Live.{LiveAfter}
 use Rattle.blocks_cfg.specs.Facts.{Rule, Holds}
-use Rattle.blocks_cfg.specs.Fed.{System, Fed, begun, emitted, passed, IsClosedBut, IsClosed, IsSound, Decides, is_among, liveness, reaching, failing}
-use Rattle.blocks_cfg.proofs.Solution.{least, among_is, is_among_it, live_is_fed, reached_is_fed, holds_unless_fails}
+use Rattle.blocks_cfg.specs.Fed.{System, Fed, begun, emitted, passed, IsClosed, IsSound, Decides, is_among, liveness, reaching, failing}
+use Rattle.blocks_cfg.proofs.Solution.{least, among_is, live_is_fed, reached_is_fed, holds_unless_fails}
 
 -- ---- tests
 

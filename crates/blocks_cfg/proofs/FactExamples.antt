@@ -1,5 +1,5 @@
 -- Facts on flags and on upper halves, computed on small codes. Places count from 0; a label is none.
-use Rattle.std.proofs.Common.{◌≡◌, ℕ, true, List, [], ◌∷◌, refl}
+use Rattle.std.proofs.Common.{◌≡◌, true, [], ◌∷◌, refl}
 use Rattle.std.specs.Prelude.{codes}
 use Rattle.insn_ir.specs.declared.op.Reg.TheVariants.{Rax, Rcx, Rdx, Rbx, Rsi, Rdi}
 use Rattle.insn_ir.specs.declared.op.Flag.TheVariants.{Cf, Of}

@@ -1,5 +1,5 @@
 -- Loops of small codes: the lines a and b of each, counted from 0 with labels.
-use Rattle.std.proofs.Common.{◌≡◌, ◌⊎◌, ℕ, zero, suc, ◌<◌, ltb, Bool, true, false, not, ◌&&◌, ◌||◌, List, [], ◌∷◌, length, Option, Some, None, inl, inr, ⊎_elim, refl, sym, ap, ◌∙◌, subst, arith}
+use Rattle.std.proofs.Common.{◌≡◌, ◌⊎◌, ℕ, zero, suc, ◌<◌, ltb, Bool, true, false, not, ◌&&◌, ◌||◌, List, [], ◌∷◌, length, Option, Some, inl, inr, ⊎_elim, refl, sym, ap, subst, arith}
 use Rattle.std.specs.Prelude.{codes, slice_get, bytes_eq}
 use Rattle.std.specs.List.{list_any}
 use Rattle.std.proofs.lemmas.Bool.Decides.{Decides-ltb}
@@ -10,11 +10,11 @@ use Rattle.insn_ir.specs.declared.op.Op.{Op}
 use Rattle.insn_ir.specs.declared.op.Width.TheVariants.{L, Q}
 use Rattle.insn_ir.specs.Machine.{Target, Named, Numbered}
 use Rattle.insn_ir.specs.Code.{Code, Place, One, Line, Mark, Do}
-use Rattle.insn_effects.specs.Control.{Way, Straight, Direct, Conditional, Through, Computed, Calls, Returns, Stops, place_way}
+use Rattle.insn_effects.specs.Control.{Way, Direct, Conditional, Through, place_way}
 use Rattle.blocks_cfg.specs.Flow.{IsAmong}
-use Rattle.blocks_cfg.specs.Loops.{TargetIs, JumpsTo, LeadsTo, IsLoop}
+use Rattle.blocks_cfg.specs.Loops.{TargetIs, LeadsTo, IsLoop}
 use Rattle.blocks_cfg.proofs.Codes.{reg, num, to_name, with_one, two, label, ret, nop, jmp, jcc, through, code, with_table}
-use Rattle.blocks_cfg.proofs.Makers.{Tells, bytes_tell}
+use Rattle.blocks_cfg.proofs.Makers.{bytes_tell}
 use Rattle.blocks_cfg.proofs.Computed.{and_left, and_right, below_or_last}
 use Rattle.blocks_cfg.proofs.LiveExamples.{counted}
 

@@ -1,11 +1,11 @@
 -- Stretches of small codes, computed.
-use Rattle.std.proofs.Common.{◌≡◌, ℕ, List, [], ◌∷◌, refl}
+use Rattle.std.proofs.Common.{◌≡◌, [], ◌∷◌, refl}
 use Rattle.std.specs.Prelude.{codes}
 use Rattle.insn_ir.specs.declared.op.Reg.TheVariants.{Rax, Rsi}
 use Rattle.insn_ir.specs.declared.op.Cond.{Cond}
 use Rattle.insn_ir.specs.declared.op.Op.{Op}
 use Rattle.insn_ir.specs.declared.op.Width.TheVariants.{L, Q}
-use Rattle.insn_ir.specs.Code.{One, Line, Mark, Do}
+use Rattle.insn_ir.specs.Code.{One, Mark, Do}
 use Rattle.blocks_cfg.specs.Stretch.{Item, Cuts, Stands, Rests, numbered, stretch_of, AreOf, none, label, place, cut, rest}
 use Rattle.blocks_cfg.proofs.Codes.{reg, to_name, with_none, with_one, with_two}
 

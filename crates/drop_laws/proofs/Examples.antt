@@ -1,8 +1,6 @@
 -- Which places of small codes may go, computed. Lines count from 0 with labels, places without.
-use Rattle.std.proofs.Common.{◌≡◌, ℕ, Bool, true, false, List, [], ◌∷◌, ◌+◌, ◌^◌, Option, Some, None, inl, inr, ⊎_elim, refl, sym, ap, ◌∙◌, subst}
-use Rattle.std.specs.Prelude.{codes}
-use Rattle.insn_ir.specs.declared.op.Reg.{Reg}
-use Rattle.insn_ir.specs.declared.op.Reg.TheVariants.{Rax, Rcx, Rdx, Rbx, Rsp, Rsi, Rdi}
+use Rattle.std.proofs.Common.{◌≡◌, ℕ, Bool, true, false, [], ◌∷◌, ◌+◌, ◌^◌, Option, Some, None, inl, inr, ⊎_elim, refl, sym, subst}
+use Rattle.insn_ir.specs.declared.op.Reg.TheVariants.{Rax, Rcx, Rdx, Rbx, Rsi, Rdi}
 use Rattle.insn_ir.specs.declared.op.Flag.{Flag}
 use Rattle.insn_ir.specs.declared.op.Flag.TheVariants.{Cf, Pf, Zf, Sf, Of}
 use Rattle.insn_ir.specs.declared.op.Cond.{Cond}
@@ -14,11 +12,11 @@ use Rattle.insn_ir.specs.Edits.{without}
 use Rattle.insn_effects.specs.Footprint.{Loc, InReg, InFlag, ◌⊔◌}
 use Rattle.insn_effects.specs.Places.{own_footprint}
 use Rattle.blocks_cfg.specs.Live.{LiveAfter}
-use Rattle.blocks_cfg.proofs.Codes.{reg, num, at_base, mem, with_none, with_one, with_two, two, ret, code}
-use Rattle.blocks_cfg.proofs.Computed.{below, live_test, live_are, reached_are}
+use Rattle.blocks_cfg.proofs.Codes.{reg, num, at_base, mem, with_one, with_two, two, ret, code}
+use Rattle.blocks_cfg.proofs.Computed.{below, live_are, reached_are}
 use Rattle.blocks_cfg.proofs.Makers.{upper_are, flags_test, flags_by, clear_by}
 use Rattle.blocks_cfg.proofs.LiveExamples.{jump_over, jump_over_reached, two_dead, two_dead_rcx, two_dead_rdx, divided, tested, je_cf, je_of, jg_of}
-use Rattle.blocks_cfg.proofs.FactExamples.{sub_makes, sub_does_not_clear, jg_sub_does_not_clear, and_clears, tested_twice, test_makes, test_clears, widths_differ, widths_at_64, over_a_jump, over_a_jump_flags, over_a_jump_cf, over_a_jump_of, chosen, cmov_clears, byte_put, byte_does_not_clear, over_a_call, kept_over_a_call, call_between, call_breaks, shifted_by_cl, shift_by_cl_does_not_clear, one_way_lacks_it, each_way_must_clear}
+use Rattle.blocks_cfg.proofs.FactExamples.{sub_makes, jg_sub_does_not_clear, and_clears, tested_twice, test_makes, test_clears, widths_differ, widths_at_64, over_a_jump, over_a_jump_flags, over_a_jump_cf, over_a_jump_of, chosen, cmov_clears, byte_put, byte_does_not_clear, over_a_call, kept_over_a_call, call_between, call_breaks, shifted_by_cl, shift_by_cl_does_not_clear, one_way_lacks_it, each_way_must_clear}
 use Rattle.drop_laws.specs.Flags.{FlagsAre, AreClear}
 use Rattle.drop_laws.specs.Agreement.{down}
 use Rattle.drop_laws.specs.Removals.{place_of, IsUnreached, IsDead, IsClearing, IsTold}

@@ -1,12 +1,9 @@
 -- Puts and merges of small codes, computed. Lines count from 0 with labels.
-use Rattle.std.proofs.Common.{◌≡◌, ℕ, ◌<◌, Bool, true, false, List, [], ◌∷◌, ℤ, pos, negsuc, ◌+ℤ◌, Option, Some, None, inl, inr, ⊎_elim, refl, sym, subst, cond, arith}
-use Rattle.std.specs.Prelude.{codes, nat_eq}
-use Rattle.insn_ir.specs.declared.op.Reg.{Reg}
+use Rattle.std.proofs.Common.{◌≡◌, ℕ, false, [], ◌∷◌, ℤ, pos, negsuc, ◌+ℤ◌, Option, Some, None, inl, inr, ⊎_elim, refl, sym, subst, cond, arith}
+use Rattle.std.specs.Prelude.{codes}
 use Rattle.insn_ir.specs.declared.op.Reg.TheVariants.{Rax, Rcx, Rdx, Rsp, Rsi, Rdi}
-use Rattle.insn_ir.specs.declared.op.Flag.{Flag}
 use Rattle.insn_ir.specs.declared.op.Flag.TheVariants.{Cf, Of}
 use Rattle.insn_ir.specs.declared.op.Op.{Op}
-use Rattle.insn_ir.specs.declared.op.Width.{Width}
 use Rattle.insn_ir.specs.declared.op.Width.TheVariants.{L, Q}
 use Rattle.insn_ir.specs.declared.insn.Imm.{Imm}
 use Rattle.insn_ir.specs.declared.insn.Arg.{Arg}
@@ -21,7 +18,7 @@ use Rattle.blocks_cfg.proofs.Makers.{cell_held}
 use Rattle.blocks_cfg.proofs.CellExamples.{cell, one_stretch, load, loaded_twice, stored_between, stored_and_loaded, into_its_base, over_a_jump}
 use Rattle.move_laws.specs.Cells.{IsHeld}
 use Rattle.move_laws.specs.Puts.{IsLoaded, from_reg}
-use Rattle.move_laws.specs.Merges.{opposite, IsAdd, IsSub, Adds, IsCalm, IsMerge, sum_of, merged}
+use Rattle.move_laws.specs.Merges.{opposite, Adds, IsCalm, IsMerge, sum_of, merged}
 
 -- ---- cells that registers hold
 
