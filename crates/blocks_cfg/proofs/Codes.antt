@@ -13,7 +13,7 @@ use Rattle.insn_ir.specs.declared.insn.Imm.{Imm}
 use Rattle.insn_ir.specs.declared.insn.Arg.{Arg}
 use Rattle.insn_ir.specs.declared.insn.Insn.{Insn}
 use Rattle.insn_ir.specs.Machine.{Absolute}
-use Rattle.insn_ir.specs.Code.{Code, One, Line, Mark, Do}
+use Rattle.insn_ir.specs.Code.{Code, One, Line, LocalLabel, Do}
 
 -- ---- operands
 
@@ -57,7 +57,7 @@ abbrev pub two : Op → Width → Arg → Arg → Line
 two o d a b = line (with_two o d a b)
 
 abbrev pub label : List ℕ → Line
-label n = Mark n
+label n = LocalLabel n
 
 abbrev pub bare : Op → Width → Line
 bare o d = line (with_none o d)

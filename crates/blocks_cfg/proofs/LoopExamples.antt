@@ -9,7 +9,7 @@ use Rattle.insn_ir.specs.declared.op.Cond.{Cond}
 use Rattle.insn_ir.specs.declared.op.Op.{Op}
 use Rattle.insn_ir.specs.declared.op.Width.TheVariants.{L, Q}
 use Rattle.insn_ir.specs.Machine.{Target, Named, Numbered}
-use Rattle.insn_ir.specs.Code.{Code, Place, One, Line, Mark, Do}
+use Rattle.insn_ir.specs.Code.{Code, Place, One, Line, LocalLabel, Do}
 use Rattle.insn_effects.specs.Control.{Way, Direct, Conditional, Through, place_way}
 use Rattle.blocks_cfg.specs.Flow.{IsAmong}
 use Rattle.blocks_cfg.specs.Loops.{TargetIs, LeadsTo, IsLoop}
@@ -50,7 +50,7 @@ leads n (Through cells) h = cell_leads n cells h
 leads n _ h = absurd h
 
 abbrev leads_line : Code → Option Line → Option Line → Bool
-leads_line f (Some (Do p)) (Some (Mark n)) = leads_to n (place_way f.tables p)
+leads_line f (Some (Do p)) (Some (LocalLabel n)) = leads_to n (place_way f.tables p)
 leads_line f _ _ = false
 
 abbrev each_below : (ℕ → Bool) → ℕ → Bool
@@ -70,10 +70,10 @@ below_is t zero h k lt = absurd (omega arith)
 below_is t (suc n) h k lt =
     ⊎_elim (λ l. below_is t n (and_right (t n) (each_below t n) h) k l) (λ e. subst (λ z. t z ≡ true) (sym e) (and_left _ _ h)) (below_or_last k n lt)
 
-closed : (f : Code) (a b : ℕ) → closed_test f a b ≡ true → (k c : ℕ) (p : Place) (n : List ℕ) → (c < a) ⊎ (b < c) → slice_get f.lines c ≡ Some (Do p) → a < k → k < b → slice_get f.lines k ≡ Some (Mark n) → LeadsTo n (place_way f.tables p) → ⊥
+closed : (f : Code) (a b : ℕ) → closed_test f a b ≡ true → (k c : ℕ) (p : Place) (n : List ℕ) → (c < a) ⊎ (b < c) → slice_get f.lines c ≡ Some (Do p) → a < k → k < b → slice_get f.lines k ≡ Some (LocalLabel n) → LeadsTo n (place_way f.tables p) → ⊥
 closed f a b h k c p n out there lo hi mark l =
     clash (leads_line f (slice_get f.lines c) (slice_get f.lines k)) _ led (outside (ltb c a) (ltb b c) (⊎_elim (λ e. inl ((Decides-ltb c a).1 e)) (λ e. inr ((Decides-ltb b c).1 e)) out) (ltb a k) (ltb k b) ((Decides-ltb a k).1 lo) ((Decides-ltb k b).1 hi))
-    (below_is (λ k. stays_out f a b c k) (length f.lines) (below_is (λ c. each_below (λ k. stays_out f a b c k) (length f.lines)) (length f.lines) h c (slice_get_within f.lines c (Do p) there)) k (slice_get_within f.lines k (Mark n) mark))
+    (below_is (λ k. stays_out f a b c k) (length f.lines) (below_is (λ c. each_below (λ k. stays_out f a b c k) (length f.lines)) (length f.lines) h c (slice_get_within f.lines c (Do p) there)) k (slice_get_within f.lines k (LocalLabel n) mark))
   where
     led : leads_line f (slice_get f.lines c) (slice_get f.lines k) ≡ true
     led =
@@ -147,5 +147,5 @@ to_itself = code (label (codes "f") ∷ nop ∷ jmp (codes "f") ∷ [])
 to_itself_is_none : IsLoop to_itself 0 2 → ⊥
 to_itself_is_none h = h.is_local (sym (label_is (h.label) h.head))
   where
-    label_is : (n : List ℕ) → ◌≡◌ {A = Option Line} (Some (Mark (codes "f"))) (Some (Mark n)) → codes "f" ≡ n
+    label_is : (n : List ℕ) → ◌≡◌ {A = Option Line} (Some (LocalLabel (codes "f"))) (Some (LocalLabel n)) → codes "f" ≡ n
     label_is n e = cc

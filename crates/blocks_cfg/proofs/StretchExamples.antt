@@ -5,7 +5,7 @@ use Rattle.insn_ir.specs.declared.op.Reg.TheVariants.{Rax, Rsi}
 use Rattle.insn_ir.specs.declared.op.Cond.{Cond}
 use Rattle.insn_ir.specs.declared.op.Op.{Op}
 use Rattle.insn_ir.specs.declared.op.Width.TheVariants.{L, Q}
-use Rattle.insn_ir.specs.Code.{One, Mark, Do}
+use Rattle.insn_ir.specs.Code.{One, LocalLabel, Do}
 use Rattle.blocks_cfg.specs.Stretch.{Item, Cuts, Stands, Rests, numbered, stretch_of, AreOf, none, label, place, cut, rest}
 use Rattle.blocks_cfg.proofs.Codes.{reg, to_name, with_none, with_one, with_two}
 
@@ -45,5 +45,5 @@ stretch_behind_a_label : stretch_of [] (Cuts ∷ adds ∷ Cuts ∷ adds ∷ []) 
 stretch_behind_a_label = refl
 
 -- the items of the entries `f: / addl / .loc 1 2 / .p2align 4 / .L1: / ret`, and the lines of the code
-items_of_lines : AreOf (Cuts ∷ adds ∷ Rests ∷ Cuts ∷ Cuts ∷ returns ∷ []) (Mark (codes "f") ∷ Do (One (with_two Op.Add L (reg Rsi) (reg Rax))) ∷ Mark (codes ".L1") ∷ Do (One (with_none Op.Ret Q)) ∷ [])
+items_of_lines : AreOf (Cuts ∷ adds ∷ Rests ∷ Cuts ∷ Cuts ∷ returns ∷ []) (LocalLabel (codes "f") ∷ Do (One (with_two Op.Add L (reg Rsi) (reg Rax))) ∷ LocalLabel (codes ".L1") ∷ Do (One (with_none Op.Ret Q)) ∷ [])
 items_of_lines = label _ _ _ (place _ _ _ (rest _ _ (cut _ _ (label _ _ _ (place _ _ _ none)))))
