@@ -51,11 +51,11 @@ module _ (s : ℕ) where
   abbrev gone : Entry → Bool
   gone = has_serial s
 
-  lacks_without : (ps : List Placed) → LacksPlaced s ps → placed_without gone ps ≡ ps
+  pub lacks_without : (ps : List Placed) → LacksPlaced s ps → placed_without gone ps ≡ ps
   lacks_without [] l = refl
   lacks_without (p ∷ ps) l = ap (λ b. cond (not b) (p ∷ placed_without gone ps) (placed_without gone ps)) l.0 ∙ ap (λ xs. p ∷ xs) (lacks_without ps l.1)
 
-  lacks_put : (k : EntryKind) (ps : List Placed) → LacksPlaced s ps → map (placed_map (put_entry s k)) ps ≡ ps
+  pub lacks_put : (k : EntryKind) (ps : List Placed) → LacksPlaced s ps → map (placed_map (put_entry s k)) ps ≡ ps
   lacks_put k [] l = refl
   lacks_put k (p ∷ ps) l =
       ap (λ b. record { entry = cond b (record { serial = p.entry.serial; kind = k }) p.entry; section = p.section } ∷ map (placed_map (put_entry s k)) ps) l.0

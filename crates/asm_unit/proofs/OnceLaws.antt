@@ -95,7 +95,7 @@ module _ (s : ℕ) where
   lack_bodies [] l = tt
   lack_bodies (q ∷ qs) l = (lacks_back q.before q.body (lacks_front (q.before ++ q.body) (joined_parts qs) l), lack_bodies qs (lacks_back (q.before ++ q.body) (joined_parts qs) l))
 
-  among_behind : (xs ys : List Placed) → is_among s ys ≡ true → is_among s (xs ++ ys) ≡ true
+  pub among_behind : (xs ys : List Placed) → is_among s ys ≡ true → is_among s (xs ++ ys) ≡ true
   among_behind [] ys e = e
   among_behind (x ∷ xs) ys e = ap (λ b. has_serial s x.entry || b) (among_behind xs ys e) ∙ or_true (has_serial s x.entry)
     where
