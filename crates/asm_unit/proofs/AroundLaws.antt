@@ -1,17 +1,14 @@
 -- Where a function stands in its file, and what that tells of the entry before another and of the end of a code.
-use Rattle.std.proofs.Common.{◌≡◌, ◌≢◌, ℕ, zero, suc, Bool, true, false, cond, ◌||◌, List, [], ◌∷◌, ◌++◌, filter, Option, Some, None, refl, sym, ap, ◌∙◌, subst, append_assoc}
-use Rattle.std.specs.Prelude.{◌&&◌, slice_get, is_some, find, option_map, bytes_eq}
-use Rattle.std.proofs.lemmas.Bool.{eq-eqb, eqb-true}
-use Rattle.insn_ir.specs.declared.entry.Entry.{Entry}
-use Rattle.jump_tables.specs.Sections.{Section, Placed, placed, placed_from, section_after, text}
-use Rattle.asm_unit.specs.Functions.{Part, is_label, label_of, section_at, section_of, code_part, parts, functions}
+use Rattle.std.proofs.Common.{◌≡◌, ℕ, zero, suc, Bool, true, false, cond, ◌||◌, List, [], ◌∷◌, ◌++◌, filter, Option, Some, refl, sym, ap, ◌∙◌, subst, append_assoc}
+use Rattle.std.specs.Prelude.{slice_get, is_some, find, bytes_eq}
+use Rattle.std.proofs.lemmas.Bool.{eq-eqb}
+use Rattle.jump_tables.specs.Sections.{Placed}
+use Rattle.asm_unit.specs.Functions.{Part, label_of, section_of, code_part, parts, functions}
 use Rattle.asm_unit.specs.Tables.{is_among}
-use Rattle.asm_unit.specs.Edits.{is_frame, has_serial, joined_parts}
-use Rattle.asm_unit.specs.Grown.{LacksPlaced, Lacks, IsOnce, AreOnce, section_before, prev_section, prev_placed, stands_among, heads, put_before, part_with}
+use Rattle.asm_unit.specs.Edits.{has_serial, joined_parts}
+use Rattle.asm_unit.specs.Grown.{LacksPlaced, IsOnce, prev_placed, heads}
 use Rattle.asm_unit.proofs.Whole.{whole}
-use Rattle.asm_unit.proofs.GrownCodes.{new_among}
-use Rattle.asm_unit.proofs.OnceLaws.{lacks_among, among_lacks, lacks_front, lacks_back, lacks_kept, once_first, once_second, once_behind, among_kept, among_behind, in_one_body}
-use Rattle.asm_unit.proofs.PrevLaws.{section_is_prev, prev_stands, last_placed, front_lacks, back_counts_not, heads_not, once_front}
+use Rattle.asm_unit.proofs.OnceLaws.{lacks_among, lacks_kept}
 
 no : {P : Type 0} → true ≡ false → P
 no e = absurd (cc)

@@ -1,21 +1,19 @@
 -- The base power of a function where entries go, change or come.
-use Rattle.std.proofs.Common.{◌≡◌, ⊎_elim, ℕ, zero, suc, ◌<◌, ◌≤◌, Bool, true, false, cond, ◌||◌, nat_eq, List, [], ◌∷◌, ◌++◌, map, filter, Option, Some, None, refl, sym, ap, ◌∙◌, arith, subst, append_assoc, append-nil}
+use Rattle.std.proofs.Common.{◌≡◌, ⊎_elim, ℕ, zero, suc, Bool, true, false, cond, ◌||◌, nat_eq, List, [], ◌∷◌, ◌++◌, map, filter, Some, None, refl, sym, ap, ◌∙◌, arith, subst, append-nil}
 use Rattle.std.specs.Prelude.{◌&&◌, max, slice_get, is_some, option_map}
 use Rattle.std.specs.List.{AllByRecursion, list_any, list_all}
 use Rattle.insn_ir.specs.declared.entry.DirectiveKind.{DirectiveKind}
 use Rattle.insn_ir.specs.declared.entry.EntryKind.{EntryKind}
-use Rattle.insn_ir.specs.declared.entry.Entry.{Entry}
-use Rattle.jump_tables.specs.Sections.{Placed, placed}
+use Rattle.jump_tables.specs.Sections.{Placed}
 use Rattle.asm_unit.specs.Functions.{Part, label_of, parts, functions, leads_kind, longest_lead, full_power, greatest, base_power}
 use Rattle.asm_unit.specs.Tables.{is_among}
-use Rattle.asm_unit.specs.Edits.{joined_parts, placed_without, part_without, placed_map, part_map, has_serial}
+use Rattle.asm_unit.specs.Edits.{joined_parts, part_without, part_map, has_serial}
 use Rattle.asm_unit.specs.Grown.{LacksPlaced, IsOnce, put_before, heads, part_with}
 use Rattle.asm_unit.specs.CodeLines.{put_entry}
 use Rattle.asm_unit.proofs.Whole.{whole}
 use Rattle.asm_unit.proofs.OwnedLaws.{IsHeaded, AreHeaded, headed_label, bodyless, parts_headed}
 use Rattle.asm_unit.proofs.LineLaws.{lacks_without, lacks_put}
-use Rattle.asm_unit.proofs.OnceLaws.{all_get, all_kept, lacks_front, lacks_back, once_first, once_second, once_behind, among_behind}
-use Rattle.asm_unit.proofs.PrevLaws.{once_front, among_front}
+use Rattle.asm_unit.proofs.OnceLaws.{all_get, all_kept, lacks_front, lacks_back, once_first, once_second, once_behind, among_behind, once_front, among_front}
 
 no : {P : Type 0} → true ≡ false → P
 no e = absurd (cc)

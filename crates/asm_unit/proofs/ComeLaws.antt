@@ -1,6 +1,6 @@
 -- Alignments that go or come change no code, and nops that come change no behaviour.
-use Rattle.std.proofs.Common.{◌≡◌, ℕ, Bool, true, false, not, cond, List, [], ◌∷◌, map, filter, None, nat_eq, refl, sym, ap, ◌∙◌, subst}
-use Rattle.std.specs.Prelude.{is_some, bytes_eq}
+use Rattle.std.proofs.Common.{◌≡◌, ℕ, Bool, true, false, not, cond, List, [], ◌∷◌, map, filter, None, refl, sym, ap, ◌∙◌, subst}
+use Rattle.std.specs.Prelude.{is_some}
 use Rattle.std.specs.List.{AllByRecursion}
 use Rattle.std.proofs.lemmas.Bool.{eq-eqb}
 use Rattle.insn_ir.specs.declared.entry.DirectiveKind.{DirectiveKind}
@@ -12,7 +12,7 @@ use Rattle.insn_ir.specs.Code.{Code, One, Mark, Do}
 use Rattle.jump_tables.specs.Sections.{Section, Placed, placed_from, placed, text, section_after}
 use Rattle.asm_unit.specs.Functions.{Part, is_align_kind, label_of, code_part, parts, functions}
 use Rattle.asm_unit.specs.Decisions.{Decision, code_with, codes_with, codes}
-use Rattle.asm_unit.specs.Edits.{is_frame, without, placed_without, part_without, has_serial, TakesNoFrame, TakesNops, SameEach}
+use Rattle.asm_unit.specs.Edits.{is_frame, without, placed_without, part_without, has_serial, TakesNoFrame, SameEach}
 use Rattle.asm_unit.specs.Grown.{inserted, Lacks, TakesAligns}
 use Rattle.asm_unit.proofs.Taken.{all_parts, all_filtered, IsQuiet, code_without, functions_without}
 use Rattle.asm_unit.proofs.NopLaw.{nops_same}

@@ -1,6 +1,6 @@
 -- What depends on lasting entries alone, and that each edit keeps those.
-use Rattle.std.proofs.Common.{◌≡◌, ℕ, zero, suc, ◌<◌, ◌≤◌, Bool, true, false, not, cond, List, [], ◌∷◌, ◌++◌, map, filter, length, Option, Some, None, refl, sym, ap, ◌∙◌}
-use Rattle.std.specs.Prelude.{find, option_map, bytes_eq, filter_map, slice_index_or, is_some}
+use Rattle.std.proofs.Common.{◌≡◌, ℕ, zero, suc, Bool, true, false, not, cond, List, [], ◌∷◌, ◌++◌, map, Option, Some, None, refl, sym, ap, ◌∙◌}
+use Rattle.std.specs.Prelude.{find, option_map, bytes_eq, filter_map, slice_index_or}
 use Rattle.std.specs.List.{AllByRecursion, cons_option}
 use Rattle.insn_ir.specs.Machine.{Table}
 use Rattle.insn_ir.specs.declared.entry.DirectiveKind.{DirectiveKind}
@@ -13,7 +13,7 @@ use Rattle.jump_tables.specs.Sections.{Section, Placed, section_after, placed_fr
 use Rattle.jump_tables.specs.Tables.{label_name}
 use Rattle.asm_unit.specs.declared.decide.DecidedFunction.{DecidedFunction}
 use Rattle.asm_unit.specs.declared.defined_names.DefinedNames.{DefinedNames}
-use Rattle.asm_unit.specs.Functions.{Part, nothing, label_of, label_names, name_at, name_of, section_of, code_part, functions}
+use Rattle.asm_unit.specs.Functions.{Part, nothing, label_of, label_names, name_at, name_of, code_part, functions}
 use Rattle.asm_unit.specs.Aliases.{setting, settings}
 use Rattle.asm_unit.specs.Freeze.{defined}
 use Rattle.asm_unit.specs.Edits.{is_frame, without, placed_without, part_without, has_serial, TakesNoFrame}
@@ -21,17 +21,16 @@ use Rattle.asm_unit.specs.Held.{Held, entries_of}
 use Rattle.asm_unit.specs.Unit.{is_removable, is_removable_entry, target_of, cell_serials}
 use Rattle.asm_unit.specs.UnitFields.{with_number, machine_table}
 use Rattle.asm_unit.specs.DefinedNames.{NamesTell}
-use Rattle.asm_unit.specs.Grown.{Lacks, LacksPlaced, IsOnce, inserted}
+use Rattle.asm_unit.specs.Grown.{LacksPlaced, IsOnce, inserted}
 use Rattle.asm_unit.specs.CodeLines.{put_entry}
 use Rattle.asm_unit.specs.Lasting.{lasting, IsRemovableOnce}
-use Rattle.asm_unit.proofs.Quiet.{section_quiet}
 use Rattle.asm_unit.proofs.Taken.{IsQuiet, find_label, code_without, functions_without}
 use Rattle.asm_unit.proofs.TableCellLaws.{same_cells}
 
 no : {P : Type 0} → true ≡ false → P
 no e = absurd (cc)
 
-abbrev passing : Entry → Bool
+abbrev pub passing : Entry → Bool
 passing e = is_removable e.kind
 
 no_frame : (k : EntryKind) → is_removable k ≡ true → is_frame k ≡ false
@@ -47,7 +46,7 @@ no_setting : (k : EntryKind) → is_removable k ≡ true → setting k ≡ None
 no_setting (EntryKind.Directive (DirectiveKind.Alias a b)) e = no (sym e)
 no_setting _ e = refl
 
-quiet : (es : List Entry) → TakesNoFrame passing es
+pub quiet : (es : List Entry) → TakesNoFrame passing es
 quiet [] = tt
 quiet (e ∷ es) = (no_frame e.kind, quiet es)
 
@@ -74,7 +73,7 @@ defined_lasting es =
 
 -- a part without what passes
 
-abbrev part_lasting : Part → Part
+abbrev pub part_lasting : Part → Part
 part_lasting f = part_without passing f
 
 label_lasting : (f : Part) → label_of (part_lasting f) ≡ label_of f

@@ -1,12 +1,12 @@
 -- An instruction goes from a file, or another stands in its place: what becomes of the codes.
-use Rattle.std.proofs.Common.{◌≡◌, ◌≢◌, ◌⊎◌, inl, inr, ℕ, zero, suc, ◌+◌, Bool, true, false, not, cond, List, [], ◌∷◌, ◌++◌, map, filter, length, take, drop, Option, Some, None, refl, sym, ap, ◌∙◌, subst, append_assoc, arith, length-append}
+use Rattle.std.proofs.Common.{◌≡◌, ◌≢◌, ◌⊎◌, inl, inr, ℕ, zero, suc, ◌+◌, Bool, true, false, not, cond, List, [], ◌∷◌, ◌++◌, map, filter, length, Some, None, refl, sym, ap, ◌∙◌, append_assoc, arith, length-append}
 use Rattle.std.specs.Prelude.{slice_get, slice_set, remove, is_some, find, bytes_eq, option_map, ◌||◌}
 use Rattle.std.specs.List.{AllByRecursion, take_while}
 use Rattle.std.proofs.lemmas.List.Sums.{take_while-cons}
 use Rattle.insn_ir.specs.declared.insn.Insn.{Insn}
 use Rattle.insn_ir.specs.declared.entry.EntryKind.{EntryKind}
 use Rattle.insn_ir.specs.declared.entry.Entry.{Entry}
-use Rattle.insn_ir.specs.Code.{Code, One, Line, Mark, Do}
+use Rattle.insn_ir.specs.Code.{Code, One, Line, Do}
 use Rattle.insn_ir.specs.Edits as LineEdits
 use Rattle.insn_ir.specs.Entries.{lines_of}
 use Rattle.jump_tables.specs.Sections.{Section, Placed, placed_from, placed, text, section_after}
@@ -18,7 +18,7 @@ use Rattle.asm_unit.specs.Grown.{LacksPlaced, IsOnce}
 use Rattle.asm_unit.specs.CodeLines.{lines_before, put_entry, IsInsnOf}
 use Rattle.asm_unit.proofs.Taken.{HoldsInBody, all_parts, functions_without, code_without, IsQuiet, quiet_bodies}
 use Rattle.asm_unit.proofs.MappedCodes.{functions_changed, code_changed}
-use Rattle.asm_unit.proofs.OnceLaws.{all_get, all_kept, lacks_among, once_kept, among_kept, in_one_body, once_in_body}
+use Rattle.asm_unit.proofs.OnceLaws.{all_get, all_kept, once_kept, among_kept, in_one_body, once_in_body}
 
 no : {P : Type 0} → true ≡ false → P
 no e = absurd (cc)

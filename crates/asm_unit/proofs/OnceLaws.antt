@@ -1,5 +1,5 @@
 -- A serial that no two entries of a file have: its entry stands in one body at most.
-use Rattle.std.proofs.Common.{◌≡◌, ◌≢◌, ℕ, zero, suc, Bool, true, false, cond, ◌||◌, List, [], ◌∷◌, ◌++◌, filter, Option, Some, None, refl, sym, ap, ◌∙◌, subst}
+use Rattle.std.proofs.Common.{◌≡◌, ◌≢◌, ℕ, zero, suc, Bool, true, false, cond, ◌||◌, List, [], ◌∷◌, ◌++◌, filter, Some, refl, sym, ap, ◌∙◌, subst}
 use Rattle.std.specs.Prelude.{slice_get, is_some, ⊤}
 use Rattle.std.specs.List.{AllByRecursion}
 use Rattle.std.proofs.lemmas.Bool.{or_parts}
@@ -61,6 +61,31 @@ module _ (s : ℕ) where
       by_test true g a rest = lacks_back xs ys (o.0 g)
       by_test false g a rest = rest a
 
+  -- in the second of two lists, so not in the first
+  pub once_front : (xs ys : List Placed) → IsOnce s (xs ++ ys) → is_among s ys ≡ true → LacksPlaced s xs
+  once_front [] ys o e = tt
+  once_front (x ∷ xs) ys o e = (by_test (has_serial s x.entry) refl, once_front xs ys o.1 e)
+    where
+      by_test : (t : Bool) → has_serial s x.entry ≡ t → t ≡ false
+      by_test true g = no (sym e ∙ lacks_among ys (lacks_back xs ys (o.0 g)))
+      by_test false g = refl
+
+  pub among_front : (xs ys : List Placed) → is_among s xs ≡ true → is_among s (xs ++ ys) ≡ true
+  among_front [] ys e = no (sym e)
+  among_front (x ∷ xs) ys e = by_test (has_serial s x.entry) e (among_front xs ys)
+    where
+      by_test : (t : Bool) → (t || is_among s xs) ≡ true → (is_among s xs ≡ true → is_among s (xs ++ ys) ≡ true) → (t || is_among s (xs ++ ys)) ≡ true
+      by_test true e rest = refl
+      by_test false e rest = rest e
+
+  pub among_behind : (xs ys : List Placed) → is_among s ys ≡ true → is_among s (xs ++ ys) ≡ true
+  among_behind [] ys e = e
+  among_behind (x ∷ xs) ys e = ap (λ b. has_serial s x.entry || b) (among_behind xs ys e) ∙ or_true (has_serial s x.entry)
+    where
+      or_true : (b : Bool) → b || true ≡ true
+      or_true true = refl
+      or_true false = refl
+
   pub lacks_kept : (test : Placed → Bool) (ps : List Placed) → LacksPlaced s ps → LacksPlaced s (filter test ps)
   lacks_kept test ps l = all_kept (λ p. has_serial s p.entry ≡ false) test ps l
 
@@ -94,14 +119,6 @@ module _ (s : ℕ) where
   lack_bodies : (qs : List Part) → LacksPlaced s (joined_parts qs) → AllByRecursion LacksBody qs
   lack_bodies [] l = tt
   lack_bodies (q ∷ qs) l = (lacks_back q.before q.body (lacks_front (q.before ++ q.body) (joined_parts qs) l), lack_bodies qs (lacks_back (q.before ++ q.body) (joined_parts qs) l))
-
-  pub among_behind : (xs ys : List Placed) → is_among s ys ≡ true → is_among s (xs ++ ys) ≡ true
-  among_behind [] ys e = e
-  among_behind (x ∷ xs) ys e = ap (λ b. has_serial s x.entry || b) (among_behind xs ys e) ∙ or_true (has_serial s x.entry)
-    where
-      or_true : (b : Bool) → b || true ≡ true
-      or_true true = refl
-      or_true false = refl
 
   bodies_apart : (qs : List Part) → IsOnce s (joined_parts qs) → AreApart qs
   bodies_apart [] o = tt

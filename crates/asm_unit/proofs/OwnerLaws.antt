@@ -1,6 +1,6 @@
 -- In whose code an entry stands that comes before another.
-use Rattle.std.proofs.Common.{◌≡◌, ◌≢◌, ◌⊎◌, ℕ, Bool, true, false, cond, ◌||◌, List, [], ◌∷◌, ◌++◌, map, filter, Option, Some, None, refl, sym, ap, ◌∙◌, inl, inr, subst}
-use Rattle.std.specs.Prelude.{◌&&◌, slice_get, is_some, find, option_map, bytes_eq}
+use Rattle.std.proofs.Common.{◌≡◌, ◌⊎◌, ℕ, Bool, true, false, cond, ◌||◌, List, [], ◌∷◌, ◌++◌, filter, Option, Some, None, refl, sym, ap, ◌∙◌, inl, inr, subst}
+use Rattle.std.specs.Prelude.{◌&&◌, slice_get, find, option_map, bytes_eq}
 use Rattle.std.proofs.lemmas.Bool.{cases_eq, eq-eqb}
 use Rattle.insn_ir.specs.declared.entry.Entry.{Entry}
 use Rattle.jump_tables.specs.Sections.{Section, Placed, placed, placed_from, section_after, text}
@@ -8,10 +8,10 @@ use Rattle.asm_unit.specs.Functions.{Part, is_label, section_at, section_of, cod
 use Rattle.asm_unit.specs.Held.{Held, serial_is, entries_of, prev_from, prev_of}
 use Rattle.asm_unit.specs.Tables.{is_among}
 use Rattle.asm_unit.specs.Edits.{is_frame, has_serial}
-use Rattle.asm_unit.specs.Grown.{LacksPlaced, Lacks, IsOnce, AreOnce, section_before, prev_section, prev_placed, stands_among, heads, put_before, part_with}
+use Rattle.asm_unit.specs.Grown.{LacksPlaced, Lacks, IsOnce, AreOnce, section_before, prev_placed, last_placed, stands_among, heads, put_before, part_with}
 use Rattle.asm_unit.proofs.GrownCodes.{new_among}
-use Rattle.asm_unit.proofs.OnceLaws.{lacks_among, among_lacks, lacks_front, lacks_back, lacks_kept, once_first, once_second, once_behind, among_kept, in_one_body}
-use Rattle.asm_unit.proofs.PrevLaws.{section_is_prev, prev_stands, last_placed, front_lacks, back_counts_not, heads_not, once_front, among_front}
+use Rattle.asm_unit.proofs.OnceLaws.{lacks_among, among_lacks, lacks_front, lacks_back, lacks_kept, once_first, once_second, once_behind, among_kept, in_one_body, once_front, among_front}
+use Rattle.asm_unit.proofs.PrevLaws.{section_is_prev, prev_stands, front_lacks, back_counts_not, heads_not}
 use Rattle.asm_unit.proofs.AroundLaws.{IsAround, around, code_by_section, prev_found}
 
 no : {P : Type 0} → true ≡ false → P

@@ -1,5 +1,5 @@
 -- The lines that entries make in codes, and other kinds of entries in the place of theirs.
-use Rattle.std.specs.Prelude.{◌≡◌, ℕ, Bool, true, not, List, map, find, length, Option, Some, option_map, if◌then◌else◌}
+use Rattle.std.specs.Prelude.{◌≡◌, ℕ, true, not, List, map, find, length, Some, option_map, if◌then◌else◌}
 use Rattle.std.specs.List.{take_while}
 use Rattle.insn_ir.specs.declared.insn.Insn.{Insn}
 use Rattle.insn_ir.specs.declared.entry.EntryKind.{EntryKind}
