@@ -1,5 +1,5 @@
 -- An instruction goes from a file, or another stands in its place: what becomes of the codes.
-use Rattle.std.proofs.Common.{◌≡◌, ◌≢◌, ◌⊎◌, inl, inr, ℕ, zero, suc, ◌+◌, Bool, true, false, not, cond, List, [], ◌∷◌, ◌++◌, map, filter, length, Some, None, refl, sym, ap, ◌∙◌, append_assoc, arith, length-append}
+use Rattle.std.proofs.Common.{subst, ◌≡◌, ◌≢◌, ◌⊎◌, inl, inr, ℕ, zero, suc, ◌+◌, Bool, true, false, not, cond, List, [], ◌∷◌, ◌++◌, map, filter, length, Some, None, refl, sym, ap, ◌∙◌, append_assoc, arith, length-append}
 use Rattle.std.specs.Prelude.{slice_get, slice_set, remove, is_some, find, bytes_eq, option_map, ◌||◌}
 use Rattle.std.specs.List.{AllByRecursion, take_while}
 use Rattle.std.proofs.lemmas.List.Sums.{take_while-cons}
@@ -9,11 +9,13 @@ use Rattle.insn_ir.specs.declared.entry.Entry.{Entry}
 use Rattle.insn_ir.specs.Code.{Code, One, Line, Do}
 use Rattle.insn_ir.specs.Edits as LineEdits
 use Rattle.insn_ir.specs.Entries.{lines_of}
+use Rattle.insn_ir.specs.Same.{Same}
+use Rattle.insn_ir.proofs.SameLaws.{same_refl}
 use Rattle.jump_tables.specs.Sections.{Section, Placed, placed_from, placed, text, section_after}
 use Rattle.asm_unit.specs.Functions.{Part, is_label, label_of, section_at, code_part, parts, functions}
 use Rattle.asm_unit.specs.Tables.{is_among}
 use Rattle.asm_unit.specs.Decisions.{Decision, code_with, codes_with, codes}
-use Rattle.asm_unit.specs.Edits.{is_frame, without, placed_without, part_without, placed_map, part_map, has_serial, TakesNoFrame, KeepsFrames}
+use Rattle.asm_unit.specs.Edits.{is_frame, without, placed_without, part_without, placed_map, part_map, has_serial, TakesNoFrame, KeepsFrames, SameEach}
 use Rattle.asm_unit.specs.Grown.{LacksPlaced, IsOnce}
 use Rattle.asm_unit.specs.CodeLines.{lines_before, put_entry, IsInsnOf}
 use Rattle.asm_unit.proofs.Taken.{HoldsInBody, all_parts, functions_without, code_without, IsQuiet, quiet_bodies}
@@ -254,3 +256,14 @@ module _ (ds : List Decision) (es : List Entry) (k s : ℕ) (f : Part) (i : Insn
         ∙ code_changes (part_map (put_entry s (EntryKind.Insn new))) (slice_set c.lines (lines_before s (code_part f)) (Do (One new))) ds (functions (placed es)) k f c part code
         (λ j g e n. ap (λ ps. lines_of (kinds (code_in s ps))) (lacks_put s (EntryKind.Insn new) g.body (others j g e n)))
         put_lines
+
+-- codes of which one is another that behaves alike
+
+each_same : (cs : List Code) → SameEach cs cs
+each_same [] = tt
+each_same (c ∷ cs) = (same_refl c, each_same cs)
+
+pub same_each_set : (cs : List Code) (k : ℕ) (c d : Code) → slice_get cs k ≡ Some c → Same c d → SameEach cs (slice_set cs k d)
+same_each_set [] k c d e h = absurd (cc)
+same_each_set (b ∷ cs) zero c d e h = let same : c ≡ b = cc in (subst (λ x. Same x d) same h, each_same cs)
+same_each_set (b ∷ cs) (suc k) c d e h = (same_refl b, same_each_set cs k c d e h)
