@@ -13,7 +13,7 @@ use Rattle.asm_unit.specs.Functions.{Part, is_end, is_end_kind, typed_after, ope
 use Rattle.asm_unit.specs.Tables.{is_among}
 use Rattle.asm_unit.specs.Edits.{has_serial, placed_without}
 use Rattle.asm_unit.specs.Held.{Held, serial_is, entries_of}
-use Rattle.asm_unit.specs.Unit.{is_removable, behind, next_among}
+use Rattle.asm_unit.specs.Unit.{is_removable, next_among}
 use Rattle.asm_unit.specs.Grown.{LacksPlaced, IsOnce, AreOnce, last_placed, end_serial}
 use Rattle.asm_unit.specs.Lasting.{lasting}
 use Rattle.asm_unit.proofs.Taken.{functions_without}
@@ -172,13 +172,13 @@ module _ (code : List Placed) where
 
   next_same : (t : Section) (s : ℕ) (hs : List Held) → next_among code hs s ≡ found_in (behind_placed s (placed_from t (entries_of hs)))
   next_same t s [] = refl
-  next_same t s (h ∷ hs) = by_test (serial_is s h) (next_same (section_after t h.entry.kind) s hs)
+  next_same t s (h ∷ hs) = by_test (serial_is s h) _ (next_same (section_after t h.entry.kind) s hs)
     where
-      by_test : (b : Bool) → next_among code hs s ≡ found_in (behind_placed s (placed_from (section_after t h.entry.kind) (entries_of hs)))
-          → option_map (λ x. x.entry.serial) (find (λ x. is_among x.entry.serial code) (cond b hs (behind s hs)))
+      by_test : (b : Bool) (later : List Held) → option_map (λ x. x.entry.serial) (find (λ x. is_among x.entry.serial code) later) ≡ found_in (behind_placed s (placed_from (section_after t h.entry.kind) (entries_of hs)))
+          → option_map (λ x. x.entry.serial) (find (λ x. is_among x.entry.serial code) (cond b hs later))
           ≡ found_in (cond b (placed_from (section_after t h.entry.kind) (entries_of hs)) (behind_placed s (placed_from (section_after t h.entry.kind) (entries_of hs))))
-      by_test true e = found_same (section_after t h.entry.kind) hs
-      by_test false e = e
+      by_test true later e = found_same (section_after t h.entry.kind) hs
+      by_test false later e = e
 
   none_in : (ps : List Placed) → ((s : ℕ) → is_among s ps ≡ true → is_among s code ≡ false) → found_in ps ≡ None
   none_in [] h = refl
