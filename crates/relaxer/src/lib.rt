@@ -1,0 +1,9 @@
+//! Where each entry of a function stands, in bytes.
+#![tactic(auto)]
+
+mod offsets;
+
+pub use offsets::Offsets;
+
+#[cfg(test)]
+mod tests;
