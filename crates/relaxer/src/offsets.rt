@@ -2,7 +2,7 @@
 
 ghost use Rattle.std.specs.Prelude.{◌≡◌, ◌≤◌, ◌<◌, ◌^◌, ℕ, List, IfOk, length, sum, take, slice_set};
 ghost use Rattle.relaxer.specs.Sizes.{AreSizes};
-ghost use Rattle.relaxer.specs.Chunks.{HasSums};
+ghost use Rattle.relaxer.specs.Chunks.{HasSmallChunks, HasSums};
 
 use std::alloc::{AllocError, Global};
 use std::marker::Model;
@@ -10,12 +10,13 @@ use std::marker::Model;
 /// How many sizes a chunk has.
 const CHUNK: usize = 64;
 
-/// Sizes in bytes, each at most 4,095, of fewer than 2^32 entries. The sum of each chunk of 64 sizes is kept, so that an
-/// offset is a sum of chunks and of less than one chunk's sizes. Contracts see the list of the sizes.
+/// Sizes in bytes, each at most 4,095, of fewer than 2^32 entries. The sum of each chunk of 64 sizes is kept, and that of each
+/// 64 chunks, so an offset takes few steps. Contracts see the list of the sizes.
 #[derive(Drop, Debug)]
 pub struct Offsets {
     sizes: Vec<u32>,
-    sums: Vec<u32>,
+    chunks: Vec<u32>,
+    groups: Vec<u32>,
 }
 
 impl Model for Offsets {
@@ -23,23 +24,23 @@ impl Model for Offsets {
 
     ghost view = { λ o. o.sizes.items };
 
-    ghost invariant = { λ o. AreSizes o.sizes.items × HasSums o.sizes.items o.sums.items };
+    ghost invariant = { λ o. AreSizes o.sizes.items × HasSums o.sizes.items o.chunks.items × HasSums o.chunks.items o.groups.items };
 }
 
-fn total(sizes: &[u32]) -> u64
-    requires { sum sizes.now < 2 ^ 64 }
-    ensures { result ≡ sum sizes.now }
+fn total(numbers: &[u32]) -> u64
+    requires { sum numbers.now < 2 ^ 64 }
+    ensures { result ≡ sum numbers.now }
 {
-    sizes.iter().map(|size| u64::from(*size)).sum()
+    numbers.iter().map(|n| u64::from(*n)).sum()
 }
 
 // The sum of each chunk.
-fn chunk_sums(alloc: Global, sizes: &[u32]) -> Result<Vec<u32>, AllocError>
-    requires { AreSizes sizes.now }
-    ensures { IfOk result (λ sums. HasSums sizes.now sums.items) }
+fn chunk_sums(alloc: Global, numbers: &[u32]) -> Result<Vec<u32>, AllocError>
+    requires { HasSmallChunks numbers.now }
+    ensures { IfOk result (λ sums. HasSums numbers.now sums.items) }
 {
-    let mut sums = Vec::with_capacity(alloc, sizes.len().div_ceil(CHUNK))?;
-    let mut rest = sizes;
+    let mut sums = Vec::with_capacity(alloc, numbers.len().div_ceil(CHUNK))?;
+    let mut rest = numbers;
     while !rest.is_empty() {
         let (chunk, later) = rest.split_at(CHUNK.min(rest.len()));
         sums.push(total(chunk) as u32)?;
@@ -54,8 +55,10 @@ impl Offsets {
         requires { AreSizes sizes.now }
         ensures { IfOk result (λ offsets. offsets ≡ sizes.now) }
     {
+        let chunks = chunk_sums(alloc, sizes)?;
         Ok(Offsets {
-            sums: chunk_sums(alloc, sizes)?,
+            groups: chunk_sums(alloc, chunks.as_slice())?,
+            chunks,
             sizes: Vec::from_slice(alloc, sizes)?,
         })
     }
@@ -65,8 +68,11 @@ impl Offsets {
         requires { i ≤ length self.now }
         ensures { result ≡ sum (take i self.now) }
     {
-        let chunks = i / CHUNK;
-        total(&self.sums[..chunks]) + total(&self.sizes[CHUNK * chunks..i])
+        let chunk = i / CHUNK;
+        let group = chunk / CHUNK;
+        total(&self.groups[..group])
+            + total(&self.chunks[CHUNK * group..chunk])
+            + total(&self.sizes[CHUNK * chunk..i])
     }
 
     /// Makes `size` the size of entry `i`.
@@ -75,8 +81,13 @@ impl Offsets {
         requires small { size ≤ 4095 }
         ensures { self.new ≡ slice_set self.old i size }
     {
-        let sum = self.sums[i / CHUNK];
-        self.sums[i / CHUNK] = sum - self.sizes[i] + size;
+        let chunk = i / CHUNK;
+        let group = chunk / CHUNK;
+        let old = self.sizes[i];
+        let chunk_sum = self.chunks[chunk] - old + size;
+        let group_sum = self.groups[group] - old + size;
         self.sizes[i] = size;
+        self.chunks[chunk] = chunk_sum;
+        self.groups[group] = group_sum;
     }
 }

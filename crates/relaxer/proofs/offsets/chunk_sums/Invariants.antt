@@ -6,8 +6,8 @@ use Rattle.relaxer.proofs.offsets.chunk_sums.Given as goal
 abbrev pub invariant-loop-rest : goal.invariant-loop-rest
 invariant-loop-rest l =
     record {
-      rest : l.rest ≡ drop (64 * length l.sums.items) l.sizes;
-      fronts : (chunks : ℕ) → chunks ≤ length l.sums.items → sum (take chunks l.sums.items) ≡ sum (take (64 * chunks) l.sizes);
+      rest : l.rest ≡ drop (64 * length l.sums.items) l.numbers;
+      fronts : (chunks : ℕ) → chunks ≤ length l.sums.items → sum (take chunks l.sums.items) ≡ sum (take (64 * chunks) l.numbers);
     }
 
 abbrev pub decreases-loop-rest : goal.decreases-loop-rest

@@ -1,38 +1,61 @@
-use Rattle.std.proofs.Common.{◌<◌, ◌/◌, length, arith, ap, ◌∙◌}
-use Rattle.std.proofs.lemmas.Grind.{get_or_default_zero}
-use Rattle.relaxer.proofs.Chunks.{size_within, sum_at_small, sizes_changed, sums_changed}
+use Rattle.std.proofs.Common.{◌<◌, ◌+◌, ◌-◌, ◌/◌, length, arith, ap}
+use Rattle.relaxer.proofs.Chunks.{held_at, sizes_changed, sums_changed}
 use Rattle.relaxer.proofs.offsets.Offsets.set.Goals as goal
 
-pub overflow_sub-sum : goal.overflow_sub-sum
-overflow_sub-sum c =
+pub overflow_sub-chunk_sum : goal.overflow_sub-chunk_sum
+overflow_sub-chunk_sum c =
     let sizes = c.self.inside.sizes.items in
-    let sums = c.self.inside.sums.items in
-    let has = c.self.invariant.1 in
-    let there : c.args.i < length sizes = omega (arith, c.requires.there, ap length c.self.view_is) in
-    let chunk : c.args.i / 64 < length sums = omega (arith, has.all, there) in
-    let at_sum = c.index-sum.ensures ∙ get_or_default_zero sums (c.args.i / 64) c.index-sum.result.now chunk in
-    let at_size = c.index.ensures ∙ get_or_default_zero sizes c.args.i c.index.result.now there in
-    omega (arith, at_sum, at_size, size_within sizes sums (c.args.i / 64) c.args.i has chunk (omega arith) (omega arith) there)
+    let chunks = c.self.inside.chunks.items in
+    let groups = c.self.inside.groups.items in
+    let i = c.args.i in
+    let there : c.args.i < length c.self.inside.sizes.items = omega (arith, c.requires.there, ap length c.self.view_is) in
+    let held = held_at sizes chunks groups i c.self.invariant.0 c.self.invariant.1 c.self.invariant.2 there in
+    omega (arith, held.size c.index-old.result.now c.index-old.ensures, held.chunk c.index.result.now c.index.ensures, held.size_within)
 
-pub overflow_add-sum : goal.overflow_add-sum
-overflow_add-sum c =
+pub overflow_add-chunk_sum : goal.overflow_add-chunk_sum
+overflow_add-chunk_sum c =
     let sizes = c.self.inside.sizes.items in
-    let sums = c.self.inside.sums.items in
-    let has = c.self.invariant.1 in
-    let there : c.args.i < length sizes = omega (arith, c.requires.there, ap length c.self.view_is) in
-    let chunk : c.args.i / 64 < length sums = omega (arith, has.all, there) in
-    let at_sum = c.index-sum.ensures ∙ get_or_default_zero sums (c.args.i / 64) c.index-sum.result.now chunk in
-    omega (arith, at_sum, sum_at_small sizes sums (c.args.i / 64) c.self.invariant.0 has chunk, c.requires.small)
+    let chunks = c.self.inside.chunks.items in
+    let groups = c.self.inside.groups.items in
+    let i = c.args.i in
+    let there : c.args.i < length c.self.inside.sizes.items = omega (arith, c.requires.there, ap length c.self.view_is) in
+    let held = held_at sizes chunks groups i c.self.invariant.0 c.self.invariant.1 c.self.invariant.2 there in
+    omega (arith, held.chunk c.index.result.now c.index.ensures, held.chunk_within, held.group_small, c.requires.small)
+
+pub overflow_sub-group_sum : goal.overflow_sub-group_sum
+overflow_sub-group_sum c =
+    let sizes = c.self.inside.sizes.items in
+    let chunks = c.self.inside.chunks.items in
+    let groups = c.self.inside.groups.items in
+    let i = c.args.i in
+    let there : c.args.i < length c.self.inside.sizes.items = omega (arith, c.requires.there, ap length c.self.view_is) in
+    let held = held_at sizes chunks groups i c.self.invariant.0 c.self.invariant.1 c.self.invariant.2 there in
+    omega (arith, held.size c.index-old.result.now c.index-old.ensures, held.group c.index-2.result.now c.index-2.ensures, held.size_within, held.chunk_within)
+
+pub overflow_add-group_sum : goal.overflow_add-group_sum
+overflow_add-group_sum c =
+    let sizes = c.self.inside.sizes.items in
+    let chunks = c.self.inside.chunks.items in
+    let groups = c.self.inside.groups.items in
+    let i = c.args.i in
+    let there : c.args.i < length c.self.inside.sizes.items = omega (arith, c.requires.there, ap length c.self.view_is) in
+    let held = held_at sizes chunks groups i c.self.invariant.0 c.self.invariant.1 c.self.invariant.2 there in
+    omega (arith, held.group c.index-2.result.now c.index-2.ensures, held.group_small, c.requires.small)
 
 pub invariant_of-self : goal.invariant_of-self
 invariant_of-self c =
     let sizes = c.self.inside.sizes.items in
-    let sums = c.self.inside.sums.items in
-    let has = c.self.invariant.1 in
-    let there : c.args.i < length sizes = omega (arith, c.requires.there, ap length c.self.view_is) in
-    let chunk : c.args.i / 64 < length sums = omega (arith, has.all, there) in
-    let at_sum = c.index-sum.ensures ∙ get_or_default_zero sums (c.args.i / 64) c.index-sum.result.now chunk in
-    let at_size = c.index.ensures ∙ get_or_default_zero sizes c.args.i c.index.result.now there in (
-      sizes_changed sizes c.args.i c.args.size c.self.invariant.0 c.requires.small,
-      sums_changed sizes sums c.args.i c.index-sum.result.now c.index.result.now c.args.size has there at_sum at_size,
+    let chunks = c.self.inside.chunks.items in
+    let groups = c.self.inside.groups.items in
+    let i = c.args.i in
+    let there : c.args.i < length c.self.inside.sizes.items = omega (arith, c.requires.there, ap length c.self.view_is) in
+    let held = held_at sizes chunks groups i c.self.invariant.0 c.self.invariant.1 c.self.invariant.2 there in
+    let old = c.index-old.result.now in
+    let chunk = c.index.result.now in
+    let group = c.index-2.result.now in (
+      sizes_changed sizes i c.args.size c.self.invariant.0 c.requires.small,
+      sums_changed sizes chunks i c.args.size (chunk - old + c.args.size) c.self.invariant.1 there
+          (omega (arith, held.size c.index-old.result.now c.index-old.ensures, held.chunk c.index.result.now c.index.ensures, held.size_within)),
+      sums_changed chunks groups (i / 64) (chunk - old + c.args.size) (group - old + c.args.size) c.self.invariant.2 held.chunk_there
+          (omega (arith, held.size c.index-old.result.now c.index-old.ensures, held.chunk c.index.result.now c.index.ensures, held.group c.index-2.result.now c.index-2.ensures, held.size_within, held.chunk_within)),
     )
