@@ -17,7 +17,7 @@ const STREAM: u64 = 54;
 pub fn generate(alloc: Global, n: u32) -> Result<Vec<u8>, AllocError>
     requires { n ≤ 2000 }
     ensures text { IfOk result (λ text. text.items ≡ generated n) }
-    ensures short { IfOk result (λ text. vec_len text ≤ 1024 * n + 7) }
+    ensures short { IfOk result (λ text. vec_len text ≤ 256 * n + 7) }
 {
     let mut text = Vec::new(alloc);
     if n == 0 {
