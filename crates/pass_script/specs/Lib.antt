@@ -1,0 +1,4 @@
+pub mod Catalogue
+pub mod Grammar
+pub mod Script
+pub mod walks
