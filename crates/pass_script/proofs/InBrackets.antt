@@ -1,17 +1,17 @@
 -- What comes of a number in brackets.
-use Rattle.std.proofs.Common.{◌≡◌, ◌≢◌, refl, ap, sym, ◌∙◌, arith, ℕ, ◌+◌, ◌-◌, ◌<◌, suc, length, length-drop, Bool, true, false, List, [], ◌∷◌, Some, None}
+use Rattle.std.proofs.Common.{◌≡◌, ◌≢◌, ap, sym, ◌∙◌, arith, ℕ, ◌+◌, ◌-◌, ◌<◌, suc, length, length-drop, true, false, List, [], ◌∷◌, Some}
 use Rattle.std.specs.Prelude.{slice_get}
 use Rattle.std.specs.List.{prefix_len, take_while}
 use Rattle.pass_script.specs.declared.options.PassOption.{PassOption}
 use Rattle.pass_script.specs.declared.script.ScriptFault.{ScriptFault}
 use Rattle.pass_script.specs.declared.script.Step.{Step}
 use Rattle.pass_script.specs.Catalogue.{option_of, with_number}
-use Rattle.pass_script.specs.Grammar.{Next, Word, Reading, is_digit, is_name_byte, stopped, with_words}
+use Rattle.pass_script.specs.Grammar.{Next, Word, Reading, is_digit, stopped, with_words}
 use Rattle.pass_script.specs.Script.{is_good, number_of}
-use Rattle.pass_script.specs.walks.Left.{Left, past, reads, behind_byte, outcome, Outcome, number_outcome, GivesNumber, FailsInNumber}
+use Rattle.pass_script.specs.walks.Left.{Left, past, reads, behind_byte, outcome, number_outcome, GivesNumber, FailsInNumber}
 use Rattle.pass_script.proofs.Runs.{no_number, number_word}
 use Rattle.pass_script.proofs.Bytes.{Opens, byte_there, no_byte}
-use Rattle.pass_script.proofs.Order.{IsFrom, from_later, behind_byte_from}
+use Rattle.pass_script.proofs.Order.{from_later, behind_byte_from}
 use Rattle.pass_script.proofs.Outcomes.{number_is_good, number_is_bad}
 
 -- the reading of a number in brackets

@@ -1,5 +1,5 @@
 -- What comes of the options of a step.
-use Rattle.std.proofs.Common.{◌≡◌, ◌≢◌, refl, ap, sym, ◌∙◌, arith, ℕ, ◌+◌, ◌-◌, ◌<◌, ◌≤◌, suc, length, length-drop, Bool, true, false, cond, List, [], ◌∷◌, ◌==◌, Some, None, Option}
+use Rattle.std.proofs.Common.{◌≡◌, ◌≢◌, refl, ap, sym, ◌∙◌, arith, ℕ, ◌+◌, ◌-◌, ◌<◌, ◌≤◌, length, length-drop, Bool, true, false, cond, List, [], ◌∷◌, ◌==◌, Some, None}
 use Rattle.std.specs.Prelude.{◌||◌, slice_get, bytes_eq, find, IsTrue}
 use Rattle.std.specs.List.{prefix_len, take_while, list_any}
 use Rattle.std.proofs.lemmas.Bool.{eqb-true}
@@ -15,7 +15,7 @@ use Rattle.pass_script.specs.Catalogue.{option_of, options_of, name_of_option, w
 use Rattle.pass_script.specs.Grammar.{Next, Word, Reading, is_name_byte, read_on, stopped, with_words}
 use Rattle.pass_script.specs.Script.{first_step}
 use Rattle.pass_script.specs.walks.Given.{same_option}
-use Rattle.pass_script.specs.walks.Left.{Left, past, reads, behind_byte, outcome, Outcome, with_steps, behind_step, number_outcome, options_outcome, IsWithin, GivesNumber, FailsInNumber, GivesOptions, FailsInOptions}
+use Rattle.pass_script.specs.walks.Left.{Left, past, reads, behind_byte, outcome, with_steps, behind_step, number_outcome, options_outcome, IsWithin, GivesNumber, FailsInNumber, GivesOptions, FailsInOptions}
 use Rattle.pass_script.proofs.Runs.{goes_on, stops_here, no_option, option_word}
 use Rattle.pass_script.proofs.Bytes.{Opens, something_taken}
 use Rattle.pass_script.proofs.Order.{IsFrom, from_later, behind_byte_from}

@@ -1,5 +1,5 @@
 -- What comes of steps.
-use Rattle.std.proofs.Common.{◌≡◌, ◌≢◌, refl, ap, sym, ◌∙◌, arith, ℕ, ◌+◌, ◌-◌, ◌<◌, ◌≤◌, zero, suc, length, length-append, append_assoc, Bool, true, false, cond, List, [], ◌∷◌, ◌++◌, ◌==◌, Some, None, Option}
+use Rattle.std.proofs.Common.{◌≡◌, ◌≢◌, refl, ap, sym, ◌∙◌, arith, ℕ, ◌+◌, ◌<◌, ◌≤◌, zero, suc, length, length-append, append_assoc, true, false, cond, List, [], ◌∷◌, ◌++◌, ◌==◌, Some, None}
 use Rattle.std.specs.Prelude.{slice_get, All}
 use Rattle.std.specs.List.{prefix_len, take_while}
 use Rattle.std.proofs.lemmas.Bool.{eqb-true}
@@ -9,9 +9,9 @@ use Rattle.pass_script.specs.declared.options.PassOpts.{PassOpts}
 use Rattle.pass_script.specs.declared.script.Step.{Step}
 use Rattle.pass_script.specs.declared.script.ScriptFault.{ScriptFault}
 use Rattle.pass_script.specs.Catalogue.{kind_of, AreInRange}
-use Rattle.pass_script.specs.Grammar.{Next, Word, Reading, is_name_byte, reading, read_on, stopped, with_words}
-use Rattle.pass_script.specs.Script.{first_step, fault_of, steps_of}
-use Rattle.pass_script.specs.walks.Left.{Left, past, reads, outcome, Outcome, with_steps, behind_step, options_outcome, GivesOptions, FailsInOptions, step_outcome, GivesStep, FailsInStep}
+use Rattle.pass_script.specs.Grammar.{Next, Word, is_name_byte, reading, read_on, with_words}
+use Rattle.pass_script.specs.Script.{first_step, fault_of}
+use Rattle.pass_script.specs.walks.Left.{Left, past, reads, outcome, with_steps, behind_step, options_outcome, GivesOptions, FailsInOptions, step_outcome, GivesStep, FailsInStep}
 use Rattle.pass_script.proofs.Runs.{StopsAt, run_stops, goes_on, stops_here, no_pass, pass_word}
 use Rattle.pass_script.proofs.Bytes.{Opens}
 use Rattle.pass_script.proofs.Order.{IsFrom, from_later, read_on_from}

@@ -1,6 +1,6 @@
 -- What comes of a script, word by word.
-use Rattle.std.proofs.Common.{◌≡◌, refl, ap, sym, ◌∙◌, arith, ℕ, ◌+◌, ◌<◌, ◌≤◌, Bool, true, false, cond, not, List, [], ◌∷◌, ◌++◌, Some, None, Option, append_assoc}
-use Rattle.std.specs.Prelude.{nat_lt, bytes_eq, is_some, option_map}
+use Rattle.std.proofs.Common.{◌≡◌, refl, ap, ◌∙◌, arith, ℕ, ◌+◌, ◌<◌, true, false, List, [], ◌∷◌, ◌++◌, Some, None, append_assoc}
+use Rattle.std.specs.Prelude.{nat_lt, bytes_eq, is_some}
 use Rattle.std.specs.List.{list_any}
 use Rattle.std.proofs.lemmas.Bool.Decides.{nat_tests}
 use Rattle.pass_script.specs.declared.kinds.PassKind.{PassKind}
@@ -8,8 +8,8 @@ use Rattle.pass_script.specs.declared.options.PassOption.{PassOption}
 use Rattle.pass_script.specs.declared.script.Step.{Step}
 use Rattle.pass_script.specs.declared.script.ScriptFault.{ScriptFault}
 use Rattle.pass_script.specs.Catalogue.{kind_of, option_of, with_number}
-use Rattle.pass_script.specs.Grammar.{Next, Word, Reading, stopped, with_words}
-use Rattle.pass_script.specs.Script.{unless, word_faults, stop_fault, place_of_fault, is_good, number_of, least, first_step, with_option, steps_from}
+use Rattle.pass_script.specs.Grammar.{Word, Reading, with_words}
+use Rattle.pass_script.specs.Script.{unless, word_faults, stop_fault, is_good, number_of, least, first_step, with_option, steps_from}
 use Rattle.pass_script.specs.walks.Left.{outcome, Outcome}
 use Rattle.pass_script.proofs.Order.{IsFrom, faults_from, first_is_least, malformed_is_least}
 

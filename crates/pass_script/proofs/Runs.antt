@@ -1,7 +1,7 @@
 -- Words are longest runs: how a reading goes through one.
-use Rattle.std.proofs.Common.{◌≡◌, refl, ap, sym, ◌∙◌, arith, ℕ, zero, suc, ◌+◌, ◌<◌, Bool, true, false, cond, List, [], ◌∷◌, ◌==◌, take, drop, length, Some, None, Option, not}
+use Rattle.std.proofs.Common.{◌≡◌, refl, ap, ◌∙◌, arith, ℕ, suc, ◌+◌, ◌<◌, Bool, true, false, cond, List, [], ◌∷◌, ◌==◌, drop, Some, None}
 use Rattle.std.specs.List.{prefix_len, take_while}
-use Rattle.pass_script.specs.Grammar.{Next, Word, Reading, read_on, stopped, with_words, behind, begins, may_end, is_digit, is_name_byte}
+use Rattle.pass_script.specs.Grammar.{Next, Word, read_on, stopped, with_words, behind, begins, may_end, is_digit, is_name_byte}
 use Rattle.pass_script.specs.walks.Left.{behind_byte}
 
 -- the first byte doesn't pass

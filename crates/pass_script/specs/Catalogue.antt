@@ -1,5 +1,5 @@
 -- The catalogue of passes: kinds, their names, and their options with ranges and defaults.
-use Rattle.std.specs.Prelude.{ℕ, ◌-◌, ◌≤◌, ◌^◌, Bool, true, List, [], ◌∷◌, Option, Some, None, ◌==◌, ◌&&◌, nat_le, codes, bytes_eq, find}
+use Rattle.std.specs.Prelude.{ℕ, ◌-◌, ◌≤◌, ◌^◌, Bool, List, [], ◌∷◌, Option, ◌==◌, ◌&&◌, nat_le, codes, bytes_eq, find}
 use Rattle.pass_script.specs.declared.kinds.PassKind.{PassKind}
 use Rattle.pass_script.specs.declared.options.PassOption.{PassOption}
 use Rattle.pass_script.specs.declared.options.PassOpts.{PassOpts}

@@ -4,7 +4,6 @@ use Rattle.std.specs.Option.{option_and_then, option_map_or}
 use Rattle.std.specs.List.{list_any}
 use Rattle.pass_script.specs.declared.kinds.PassKind.{PassKind}
 use Rattle.pass_script.specs.declared.options.PassOption.{PassOption}
-use Rattle.pass_script.specs.declared.options.PassOpts.{PassOpts}
 use Rattle.pass_script.specs.declared.script.Step.{Step}
 use Rattle.pass_script.specs.declared.script.ScriptFault.{ScriptFault}
 use Rattle.pass_script.specs.Catalogue.{kind_of, option_of, is_in_range, defaults, with_number}

@@ -1,5 +1,3 @@
-use Rattle.std.proofs.Common.{◌≡◌, ◌<◌}
-use Rattle.std.specs.List.{prefix_len}
 use Rattle.pass_script.specs.Grammar.{is_digit}
 use Rattle.pass_script.proofs.Bytes.{nothing_taken, something_taken}
 use Rattle.pass_script.proofs.InBrackets.{AreGood, number_is_missing, number_is_out, number_is_read, number_is_open, shorter}

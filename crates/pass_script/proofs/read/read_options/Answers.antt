@@ -1,9 +1,9 @@
-use Rattle.std.proofs.Common.{◌≡◌, ap, sym, ◌∙◌, arith, length}
+use Rattle.std.proofs.Common.{ap, sym, ◌∙◌, arith, length}
 use Rattle.std.proofs.lemmas.Result.{err_from_is_err_and}
 use Rattle.pass_script.specs.Grammar.{is_name_byte}
 use Rattle.pass_script.specs.walks.Given.{gives}
 use Rattle.pass_script.proofs.Bytes.{nothing_taken}
-use Rattle.pass_script.proofs.InOptions.{IsNamed, IsNew, is_named, not_longer, option_is_missing, option_is_foreign, option_is_twice, number_fails, more_options, options_end, in_range}
+use Rattle.pass_script.proofs.InOptions.{IsNew, is_named, not_longer, option_is_missing, option_is_foreign, option_is_twice, number_fails, more_options, options_end, in_range}
 use Rattle.pass_script.proofs.read.read_options.Goals as goal
 
 pub returns-then-is_empty-clause-err : goal.returns-then-is_empty-clause-err

@@ -1,6 +1,5 @@
-use Rattle.std.proofs.Common.{◌≡◌, ◌<◌, ap, sym, ◌∙◌, arith, inr, length}
-use Rattle.std.proofs.lemmas.Result.{err_from_is_err_and}
-use Rattle.pass_script.proofs.InSteps.{IsAt, IsRead, starts, there_are_too_many, step_fails, step_follows, step_is_last, step_is_cut, all_in_range}
+use Rattle.std.proofs.Common.{◌<◌, ap, arith, inr, length}
+use Rattle.pass_script.proofs.InSteps.{there_are_too_many, step_follows, all_in_range}
 use Rattle.pass_script.proofs.read.read_script.Goals as goal
 
 pub returns-then-as_slice-eq-MAX_STEPS-clause-fault : goal.returns-then-as_slice-eq-MAX_STEPS-clause-fault
