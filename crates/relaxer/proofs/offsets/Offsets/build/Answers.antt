@@ -1,4 +1,4 @@
-use Rattle.std.proofs.Common.{◌≤◌, ap, arith, take, drop}
+use Rattle.std.proofs.Common.{ap, arith, take, drop}
 use Rattle.std.specs.Prelude.{sum}
 use Rattle.relaxer.proofs.Chunks.{sizes_in_chunks, sums_in_chunks}
 use Rattle.relaxer.proofs.offsets.Offsets.build.Goals as goal
