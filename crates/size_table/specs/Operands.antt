@@ -1,6 +1,6 @@
 -- The bytes that an operand takes: ModRM, SIB and displacement (SDM volume 2, "Addressing-Mode Encoding of ModR/M and SIB Bytes"),
 -- or an immediate. Every displacement and immediate has the shortest form that the instruction has for it.
-use Rattle.std.specs.Prelude.{ℕ, zero, suc, ◌+◌, Bool, true, false, ◌&&◌, ◌||◌, not, nat_lt, if◌then◌else◌, ℤ, pos, negsuc, Option, Some, None, is_some}
+use Rattle.std.specs.Prelude.{ℕ, zero, suc, ◌+◌, Bool, true, false, ◌&&◌, not, nat_lt, if◌then◌else◌, ℤ, pos, negsuc, Option, Some, None}
 use Rattle.insn_ir.specs.declared.op.Reg.{Reg}
 use Rattle.insn_ir.specs.declared.op.Reg.TheVariants.{Rax, Rsp, Rbp, R12, R13}
 use Rattle.insn_ir.specs.declared.op.Width.{Width}

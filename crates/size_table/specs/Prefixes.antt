@@ -1,9 +1,9 @@
 -- The prefixes of an instruction (SDM volume 2, "Instruction Prefixes" and "REX Prefixes"), a byte each.
-use Rattle.std.specs.Prelude.{ℕ, ◌+◌, Bool, true, false, ◌&&◌, ◌||◌, not, if◌then◌else◌, Option, Some, None}
+use Rattle.std.specs.Prelude.{ℕ, ◌+◌, Bool, true, false, ◌||◌, not, if◌then◌else◌, Option, Some, None}
 use Rattle.insn_ir.specs.declared.op.Reg.{Reg}
 use Rattle.insn_ir.specs.declared.op.Reg.TheVariants.{Rsp, Rbp, Rsi, Rdi, R8, R9, R10, R11, R12, R13, R14, R15}
 use Rattle.insn_ir.specs.declared.op.Width.{Width}
-use Rattle.insn_ir.specs.declared.op.Width.TheVariants.{B, W, L, Q}
+use Rattle.insn_ir.specs.declared.op.Width.TheVariants.{B, W, Q}
 use Rattle.insn_ir.specs.declared.op.Op.{Op}
 use Rattle.insn_ir.specs.declared.insn.Base.{Base}
 use Rattle.insn_ir.specs.declared.insn.Arg.{Arg}

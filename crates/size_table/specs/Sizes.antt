@@ -1,9 +1,9 @@
 -- The size of an instruction in bytes: prefixes, opcode, ModRM, SIB, displacement and immediate (SDM volume 2, "Instruction Format
 -- for Protected Mode, Real-Address Mode, Virtual-8086 Mode, and Compatibility Mode" and chapters 3 to 5, the opcodes of each
 -- instruction). Of several encodings it is the one that GNU as chooses without `-O`.
-use Rattle.std.specs.Prelude.{ℕ, ◌+◌, Bool, true, false, ◌||◌, if◌then◌else◌, ℤ, pos, negsuc, zero, suc}
+use Rattle.std.specs.Prelude.{ℕ, zero, suc, ◌+◌, ◌||◌, if◌then◌else◌, pos}
 use Rattle.insn_ir.specs.declared.op.Width.{Width}
-use Rattle.insn_ir.specs.declared.op.Width.TheVariants.{B, W, L, Q}
+use Rattle.insn_ir.specs.declared.op.Width.TheVariants.{B, L, Q}
 use Rattle.insn_ir.specs.declared.op.Op.{Op}
 use Rattle.insn_ir.specs.declared.insn.Imm.{Imm}
 use Rattle.insn_ir.specs.declared.insn.Arg.{Arg}
