@@ -58,12 +58,7 @@ fn nothing(op: Op) -> Insn
 }
 
 // A name, perhaps with the specifier `tpoff`, and an offset.
-fn symbol(
-    alloc: Global,
-    name: &[u8],
-    specified: bool,
-    offset: i64,
-) -> Result<BoxedAtom, AllocError>
+fn symbol(alloc: Global, name: &[u8], specified: bool, offset: i64) -> Result<BoxedAtom, AllocError>
     ensures { IfOk result (λ a. a ≡ record { name = name.now; spec = (if specified then Some (codes "tpoff") else None); offset = offset }) }
 {
     let spec = if specified {

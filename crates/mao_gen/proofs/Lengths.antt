@@ -20,7 +20,7 @@ length-byte : (k byte : ℕ) → k < 10 ^ 4 → length (byte_or_number k byte) �
 length-byte k byte small =
     let number : length (decimal k) ≤ 4 = length-decimal-le 4 k (omega arith) small (omega arith) in
     elim (byte == 75) as (λ v. length (if v then decimal k else (byte ∷ [])) ≤ 1 + 3 * (if v then 1 else 0)) [
-      true ↦ omega (arith, number)
+      | true ↦ omega (arith, number)
       | false ↦ omega arith
     ]
 
