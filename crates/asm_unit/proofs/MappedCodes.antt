@@ -25,7 +25,7 @@ module _ (h : Entry → Entry) where
   kept_placed s [] w = tt
   kept_placed s (e ∷ es) w = (w.0, kept_placed (section_after s e.kind) es w.1)
 
-  find_mapped : (ps : List Placed) → AllByRecursion IsKept ps → find is_label (map (placed_map h) ps) ≡ option_map (placed_map h) (find is_label ps)
+  pub find_mapped : (ps : List Placed) → AllByRecursion IsKept ps → find is_label (map (placed_map h) ps) ≡ option_map (placed_map h) (find is_label ps)
   find_mapped [] w = refl
   find_mapped (p ∷ ps) w =
       ap (λ o. cond (is_some o) (Some (placed_map h p)) (find is_label (map (placed_map h) ps))) (label_kept p.entry.kind (h p.entry).kind w.0)
@@ -66,7 +66,7 @@ module _ (h : Entry → Entry) where
       by_test true e = ap (λ xs. placed_map h p ∷ xs) e
       by_test false e = e
 
-  code_mapped : (q : Part) → AllByRecursion IsKept q.body → code_part (part_map h q) ≡ map (placed_map h) (code_part q)
+  pub code_mapped : (q : Part) → HoldsInBody IsKept q → code_part (part_map h q) ≡ map (placed_map h) (code_part q)
   code_mapped q w =
       ap (λ o. filter (λ p. bytes_eq p.section.name (section_at o).name) (map (placed_map h) q.body)) (find_mapped q.body w)
       ∙ ap (λ s. filter (λ p. bytes_eq p.section.name s.name) (map (placed_map h) q.body)) (section_map (label_of q))
@@ -75,6 +75,9 @@ module _ (h : Entry → Entry) where
   kept_bodies : (es : List Entry) → KeepsFrames h es → AllByRecursion (HoldsInBody IsKept) (parts (placed es))
   kept_bodies es w = all_parts IsKept (placed es) [] None (kept_placed text es w)
 
+  pub kept_functions : (es : List Entry) → KeepsFrames h es → AllByRecursion (HoldsInBody IsKept) (functions (placed es))
+  kept_functions es w = all_kept (HoldsInBody IsKept) (λ q. is_some (label_of q)) (parts (placed es)) (kept_bodies es w)
+
 -- the functions of changed entries are the functions, changed
 pub functions_changed : (h : Entry → Entry) (es : List Entry) → KeepsFrames h es → functions (placed (map h es)) ≡ map (part_map h) (functions (placed es))
 functions_changed h es w = ap (λ qs. filter (λ q. is_some (label_of q)) qs) (parts_changed h es w) ∙ labelled h (parts (placed es)) (kept_bodies h es w)
@@ -82,8 +85,8 @@ functions_changed h es w = ap (λ qs. filter (λ q. is_some (label_of q)) qs) (p
 -- and so are their codes
 pub code_changed : (h : Entry → Entry) (es : List Entry) (k : ℕ) (f : Part) → KeepsFrames h es → slice_get (functions (placed es)) k ≡ Some f → code_part (part_map h f) ≡ map (placed_map h) (code_part f)
 code_changed h es k f w part =
-    code_mapped h f (all_get (HoldsInBody (IsKept h)) (functions (placed es)) k f (all_kept (HoldsInBody (IsKept h)) (λ q. is_some (label_of q)) (parts (placed es)) (kept_bodies h es w)) part)
+    code_mapped h f (all_get (HoldsInBody (IsKept h)) (functions (placed es)) k f (kept_functions h es w) part)
 
 pub label_changed : (h : Entry → Entry) (es : List Entry) (k : ℕ) (f : Part) → KeepsFrames h es → slice_get (functions (placed es)) k ≡ Some f → label_of (part_map h f) ≡ option_map (placed_map h) (label_of f)
 label_changed h es k f w part =
-    find_mapped h f.body (all_get (HoldsInBody (IsKept h)) (functions (placed es)) k f (all_kept (HoldsInBody (IsKept h)) (λ q. is_some (label_of q)) (parts (placed es)) (kept_bodies h es w)) part)
+    find_mapped h f.body (all_get (HoldsInBody (IsKept h)) (functions (placed es)) k f (kept_functions h es w) part)

@@ -1,11 +1,11 @@
 -- The entries of a unit, one after another.
-use Rattle.std.proofs.Common.{◌≡◌, ℕ, ◌<◌, ◌≤◌, Bool, true, false, cond, List, [], ◌∷◌, ◌++◌, length, Option, Some, None, refl, ap, sym, ◌∙◌, subst, arith, append_assoc}
+use Rattle.std.proofs.Common.{◌≡◌, ℕ, ◌<◌, Bool, true, false, cond, List, [], ◌∷◌, ◌++◌, length, Option, Some, None, refl, ap, sym, ◌∙◌, subst, arith, append_assoc}
 use Rattle.std.specs.Prelude.{find}
 use Rattle.std.specs.List.{AllByRecursion}
-use Rattle.std.proofs.lemmas.Bool.{eq-eqb, ne_eqb, eqb-true}
+use Rattle.std.proofs.lemmas.Bool.{eq-eqb, eqb-true, or_parts}
 use Rattle.insn_ir.specs.declared.entry.Entry.{Entry}
-use Rattle.asm_unit.specs.Held.{Held, serial_is, first_of, next_of, held_entry, entry_of, span_if, span_of}
-use Rattle.asm_unit.specs.UnitFields.{Rise}
+use Rattle.asm_unit.specs.declared.held.Held.{Held}
+use Rattle.asm_unit.specs.Held.{serial_is, holds_serial, AreUnique, first_of, next_of, held_entry, entry_of, span_if, span_of}
 use Rattle.asm_writer.specs.Unit.{entry_text, unit_text, IsWritable, AreWritable}
 use Rattle.asm_writer.specs.Runs.{found_text, text_at}
 
@@ -49,12 +49,12 @@ past h hs (Some s) e f = by_test (serial_is s h) refl
         absurd (none_is_not s (f ∙ ap first_of none))
     by_test false g = refl
 
--- of serials that rise none comes again
-none_below : (n s : ℕ) (hs : List Held) → Rise n hs → s ≤ n → find (serial_is s) hs ≡ None
-none_below n s [] r le = refl
-none_below n s (h ∷ hs) r le =
-    ap (λ b. cond b (Some h) (find (serial_is s) hs)) (ne_eqb h.entry.serial s (λ q. absurd (omega (arith, r.0, le, q))))
-    ∙ none_below h.entry.serial s hs r.1 (omega (arith, r.0, le))
+-- a serial that no entry has is found nowhere
+none_held : (s : ℕ) (hs : List Held) → holds_serial s hs ≡ false → find (serial_is s) hs ≡ None
+none_held s [] e = refl
+none_held s (h ∷ hs) e =
+    let w = or_parts (serial_is s h) (holds_serial s hs) e in
+    ap (λ b. cond b (Some h) (find (serial_is s) hs)) w.0 ∙ none_held s hs w.1
 
 -- the entry at hand, and those behind it
 pub record Step (hs : List Held) (s : ℕ) : Type 0 where
@@ -65,13 +65,13 @@ pub record Step (hs : List Held) (s : ℕ) : Type 0 where
   pub next : next_of hs s ≡ first_of rest
   pub behind : from_serial (next_of hs s) hs ≡ rest
 
-pub step_at : (n : ℕ) (hs : List Held) (s : ℕ) → Rise n hs → Some s ≡ first_of (from_serial (Some s) hs) → Step hs s
+pub step_at : (hs : List Held) (s : ℕ) → AreUnique hs → Some s ≡ first_of (from_serial (Some s) hs) → Step hs s
 unfolding from_serial
-step_at n [] s r e = absurd (none_is_not s e)
-step_at n (h ∷ hs) s r e = by_test (serial_is s h) refl (λ q. step_at h.entry.serial hs s r.1 q) e
+step_at [] s r e = absurd (none_is_not s e)
+step_at (h ∷ hs) s r e = by_test (serial_is s h) refl (λ q. step_at hs s r.1 q) e
   where
     from_next : (o : Option ℕ) (rest : List Held) → o ≡ first_of rest → from_serial o hs ≡ rest → from_serial o (h ∷ hs) ≡ rest
-    from_next o rest first from = past h hs o (none_below h.entry.serial h.entry.serial hs r.1 (omega arith)) (first ∙ ap first_of (sym from)) ∙ from
+    from_next o rest first from = past h hs o (none_held h.entry.serial hs r.0) (first ∙ ap first_of (sym from)) ∙ from
 
     by_test : (b : Bool) → serial_is s h ≡ b → (Some s ≡ first_of (from_serial (Some s) hs) → Step hs s) → Some s ≡ first_of (cond b (h ∷ hs) (from_serial (Some s) hs)) → Step (h ∷ hs) s
     by_test true g rest q = record {
@@ -127,8 +127,8 @@ text_here text hs s t =
     ∙ ap (λ l. entry_text text t.here.entry.kind t.here.span ++ unit_text text l) (sym t.behind)
     ∙ ap (λ o. found_text text o ++ unit_text text (from_serial (next_of hs s) hs)) (sym t.found)
 
-pub step_of : (hs : List Held) (o : Option ℕ) (s : ℕ) → Rise 0 hs → o ≡ Some s → o ≡ first_of (from_serial o hs) → Step hs s
-step_of hs o s r is there = step_at 0 hs s r (sym is ∙ there ∙ ap (λ o. first_of (from_serial o hs)) is)
+pub step_of : (hs : List Held) (o : Option ℕ) (s : ℕ) → AreUnique hs → o ≡ Some s → o ≡ first_of (from_serial o hs) → Step hs s
+step_of hs o s r is there = step_at hs s r (sym is ∙ there ∙ ap (λ o. first_of (from_serial o hs)) is)
 
 pub next_there : (hs : List Held) (o : Option ℕ) (s : ℕ) (t : Step hs s) → o ≡ next_of hs s → o ≡ first_of (from_serial o hs)
 next_there hs o s t e = e ∙ t.next ∙ ap first_of (sym t.behind) ∙ ap (λ o. first_of (from_serial o hs)) (sym e)

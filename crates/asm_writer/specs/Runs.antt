@@ -1,7 +1,8 @@
 -- Kept pieces that wait to be put together.
 use Rattle.std.specs.Prelude.{ℕ, ◌-◌, ◌≤◌, ◌≡◌, List, [], ◌++◌, take, drop, length, Option, Some, None, find}
 use Rattle.std.specs.Io.KnownBytes.{Appends}
-use Rattle.asm_unit.specs.Held.{Held, serial_is}
+use Rattle.asm_unit.specs.declared.held.Held.{Held}
+use Rattle.asm_unit.specs.Held.{serial_is}
 use Rattle.asm_writer.specs.declared.unit.Run.{Run}
 use Rattle.asm_writer.specs.Unit.{entry_text}
 

@@ -6,7 +6,7 @@ use Rattle.insn_ir.specs.declared.entry.DirectiveKind.{DirectiveKind}
 use Rattle.insn_ir.specs.declared.entry.EntryKind.{EntryKind}
 use Rattle.insn_ir.specs.Profile.{IsInstruction}
 use Rattle.att_grammar.specs.Canonical.{insn_text, align_text}
-use Rattle.asm_unit.specs.Held.{Held}
+use Rattle.asm_unit.specs.declared.held.Held.{Held}
 
 -- the bytes of a text that a span names
 abbrev pub bytes_at : List ℕ → Span → List ℕ

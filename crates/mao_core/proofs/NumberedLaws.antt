@@ -5,7 +5,8 @@ use Rattle.std.specs.List.{AllByRecursion}
 use Rattle.std.proofs.lemmas.Bool.{eq-eqb, ne_eqb}
 use Rattle.insn_ir.specs.declared.entry.EntryKind.{EntryKind}
 use Rattle.insn_ir.specs.declared.entry.Entry.{Entry}
-use Rattle.asm_unit.specs.Held.{Held, AreNumbered, entries_of, serial_is, entry_of, held_entry}
+use Rattle.asm_unit.specs.declared.held.Held.{Held}
+use Rattle.asm_unit.specs.Held.{AreNumbered, entries_of, serial_is, entry_of, held_entry}
 use Rattle.mao_core.specs.Entries.{numbered, kinds_of_text}
 
 pub are_numbered : (n m : ℕ) (ks : List EntryKind) → m ≡ suc n → AreNumbered n (numbered m ks)

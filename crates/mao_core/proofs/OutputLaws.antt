@@ -5,7 +5,8 @@ use Rattle.std.proofs.lemmas.List.{drop-drop, take_at, drop_at}
 use Rattle.att_lexer.specs.Pieces.{pieces, spans_of}
 use Rattle.att_lexer.proofs.PiecesLaws.{are_pieces}
 use Rattle.att_grammar.specs.Entries.{kind_of_piece}
-use Rattle.asm_unit.specs.Held.{Held, entries_of}
+use Rattle.asm_unit.specs.declared.held.Held.{Held}
+use Rattle.asm_unit.specs.Held.{entries_of}
 use Rattle.asm_writer.specs.Unit.{entry_text, unit_text, IsWritable, AreWritable}
 use Rattle.mao_core.specs.Entries.{numbered}
 use Rattle.mao_core.specs.Kept.{is_among, remaining_from, text_without}

@@ -6,7 +6,8 @@ use Rattle.std.proofs.lemmas.Bool.{and_parts, ne_eqb, eqb-true}
 use Rattle.std.proofs.lemmas.List.{drop_more}
 use Rattle.insn_ir.specs.declared.entry.Entry.{Entry}
 use Rattle.insn_ir.specs.Entries.{is_nop_entry}
-use Rattle.asm_unit.specs.Held.{Held, AreNumbered, entries_of, serial_is, entry_of, held_entry, held_without}
+use Rattle.asm_unit.specs.declared.held.Held.{Held}
+use Rattle.asm_unit.specs.Held.{AreNumbered, entries_of, serial_is, entry_of, held_entry, held_without}
 use Rattle.asm_unit.specs.declared.cause.FreezeCause.{FreezeCause}
 use Rattle.asm_unit.specs.Decisions.{Decision}
 use Rattle.asm_unit.specs.Unit.{Unit}

@@ -3,7 +3,8 @@ use Rattle.std.specs.Prelude.{◌≡◌, ℕ, Bool, true, false, not, ◌&&◌, 
 use Rattle.std.specs.List.{AllByRecursion}
 use Rattle.insn_ir.specs.declared.entry.Entry.{Entry}
 use Rattle.insn_ir.specs.Entries.{is_nop_entry}
-use Rattle.asm_unit.specs.Held.{Held, entry_of}
+use Rattle.asm_unit.specs.declared.held.Held.{Held}
+use Rattle.asm_unit.specs.Held.{entry_of}
 use Rattle.asm_unit.specs.Unit.{Unit, functions_of, in_clear_code}
 use Rattle.mao_core.specs.Entries.{Ascend}
 use Rattle.mao_core.specs.Kept.{is_among}

@@ -30,7 +30,7 @@ returns-in_err-run-clause-part g c =
     let text = c.args.text.now in
     let before = c.loop-at.invariant in
     let s = c.in-Some.serial in
-    let step = step_of hs c.loop-at.at s c.first-at.ensures.rise c.in-Some.is before.there in
+    let step = step_of hs c.loop-at.at s c.first-at.ensures.unique c.in-Some.is before.there in
     let here = text_at text hs s in
     let rest = unit_text text (from_serial (next_of hs s) hs) in
     let split = text_split text hs c.loop-at.at (next_of hs s) s step c.in-Some.is refl in
@@ -42,7 +42,7 @@ pub loop-at-smaller : goal.loop-at-smaller
 loop-at-smaller g c =
     let hs = c.args.unit.now.held in
     let s = c.in-Some.serial in
-    let step = step_of hs c.loop-at.at s c.first-at.ensures.rise c.in-Some.is c.loop-at.invariant.there in
+    let step = step_of hs c.loop-at.at s c.first-at.ensures.unique c.in-Some.is c.loop-at.invariant.there in
     shorter hs c.loop-at.at c.next-at.result s step c.in-Some.is c.next-at.ensures
 
 pub loop-at-preserved : goal.loop-at-preserved
@@ -52,7 +52,7 @@ loop-at-preserved g c =
     let text = c.args.text.now in
     let before = c.loop-at.invariant in
     let s = c.in-Some.serial in
-    let step = step_of hs c.loop-at.at s c.first-at.ensures.rise c.in-Some.is before.there in
+    let step = step_of hs c.loop-at.at s c.first-at.ensures.unique c.in-Some.is before.there in
     let split = text_split text hs c.loop-at.at c.next-at.result s step c.in-Some.is c.next-at.ensures in
     let more = c.in_ok-run.ensures.all in
     record {

@@ -1,0 +1,26 @@
+use Rattle.std.proofs.Common.{◌∙◌, sym, ap, Some, None}
+use Rattle.asm_unit.specs.Held.{prev_of}
+use Rattle.asm_unit.proofs.KeyLaws.{told, key_there, prev_is, prev_none, serial_under}
+use Rattle.asm_unit.proofs.held_list.HeldList.prev.Goals as goal
+
+pub returns-in_default : goal.returns-in_default
+returns-in_default c =
+    let key = told c.self.inside.list.pairs c.self.inside.keys.items c.as_slice.result.now c.args.serial c.key_in.result None c.self.invariant c.as_slice.ensures.value c.key_in.ensures c.in_default.is in
+    sym (prev_none None c.self.inside.list.pairs c.args.serial key) ∙ ap (λ v. prev_of v.held c.args.serial) c.self.view_is
+
+pub prev-requires : goal.prev-requires
+prev-requires c =
+    let key = told c.self.inside.list.pairs c.self.inside.keys.items c.as_slice.result.now c.args.serial c.key_in.result (Some c.in-Some.key) c.self.invariant c.as_slice.ensures.value c.key_in.ensures c.in-Some.is in
+    key_there c.self.inside.list.pairs c.args.serial c.in-Some.key key
+
+pub returns-in-Some-prev : goal.returns-in-Some-prev
+returns-in-Some-prev c =
+    let key = told c.self.inside.list.pairs c.self.inside.keys.items c.as_slice.result.now c.args.serial c.key_in.result (Some c.in-Some.key) c.self.invariant c.as_slice.ensures.value c.key_in.ensures c.in-Some.is in
+    c.serial_at.ensures ∙ ap (serial_under c.self.inside.list.pairs) (sym c.in-Some-prev.is ∙ c.prev.ensures)
+    ∙ prev_is c.self.inside.list.pairs c.args.serial c.in-Some.key c.self.invariant.distinct key ∙ ap (λ v. prev_of v.held c.args.serial) c.self.view_is
+
+pub returns-in-None : goal.returns-in-None
+returns-in-None c =
+    let key = told c.self.inside.list.pairs c.self.inside.keys.items c.as_slice.result.now c.args.serial c.key_in.result (Some c.in-Some.key) c.self.invariant c.as_slice.ensures.value c.key_in.ensures c.in-Some.is in
+    ap (serial_under c.self.inside.list.pairs) (sym c.in-None.is ∙ c.prev.ensures)
+    ∙ prev_is c.self.inside.list.pairs c.args.serial c.in-Some.key c.self.invariant.distinct key ∙ ap (λ v. prev_of v.held c.args.serial) c.self.view_is
