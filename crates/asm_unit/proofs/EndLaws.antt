@@ -1,9 +1,9 @@
 -- The end of a code: behind it stands none of the code, and no entry that goes changes that.
 use Rattle.std.proofs.Common.{◌≡◌, ℕ, suc, ◌<◌, ◌≤◌, Bool, true, false, not, cond, List, [], ◌∷◌, Option, Some, None, refl, sym, ap, ◌∙◌, arith, subst, nat_eq, option_map}
 use Rattle.std.specs.Prelude.{⊤, find}
-use Rattle.std.proofs.lemmas.Bool.{ne_eqb, eqb-true, or_from}
+use Rattle.std.proofs.lemmas.Bool.{ne_eqb, eq-eqb, eqb-true, or_from, or_parts}
 use Rattle.insn_ir.specs.declared.entry.EntryKind.{EntryKind}
-use Rattle.asm_unit.specs.Held.{Held, AreNumbered, entries_of, serial_is, holds_serial, AreUnique, behind, held_without, new_held, put_held, held_put}
+use Rattle.asm_unit.specs.Held.{Held, AreNumbered, entries_of, serial_is, holds_serial, AreUnique, behind, held_without, new_held, put_held, held_put, held_inserted}
 use Rattle.asm_unit.specs.OwnerWalk.{next_where}
 
 no : {P : Type 0} → true ≡ false → P
@@ -136,3 +136,66 @@ module _ (test left : ℕ → Bool) (fewer : (s : ℕ) → left s ≡ true → t
 
   pub end_put : (end : ℕ) (hs : List Held) → next_where test hs end ≡ None → next_where left (held_put serial k hs) end ≡ None
   end_put end hs e = ap (option_map (λ h. h.entry.serial)) (behind_put end hs (none_of (found_in test (behind end hs)) e))
+
+-- an entry comes before another
+module _ (test left : ℕ → Bool) (b n : ℕ) (k : EntryKind) (same : (s : ℕ) → nat_eq n s ≡ false → left s ≡ true → test s ≡ true) (with_next : left n ≡ true → test b ≡ true) where
+  still_none : (s : ℕ) → nat_eq n s ≡ false → test s ≡ false → left s ≡ false
+  still_none s d e = by_test (left s) refl
+    where
+      by_test : (t : Bool) → left s ≡ t → t ≡ false
+      by_test true g = sym (same s d g) ∙ e
+      by_test false g = refl
+
+  none_new : test b ≡ false → left n ≡ false
+  none_new e = by_test (left n) refl
+    where
+      by_test : (t : Bool) → left n ≡ t → t ≡ false
+      by_test true g = sym (with_next g) ∙ e
+      by_test false g = refl
+
+  other_serial : (x : Held) (hs : List Held) → holds_serial n (x ∷ hs) ≡ false → (nat_eq n x.entry.serial ≡ false) × (holds_serial n hs ≡ false)
+  other_serial x hs f = let w = or_parts (serial_is n x) (holds_serial n hs) f in (ne_eqb n x.entry.serial (λ q. no (sym (eq-eqb x.entry.serial n (sym q)) ∙ w.0)), w.1)
+
+  none_kept : (hs : List Held) → holds_serial n hs ≡ false → found_in test hs ≡ None → found_in left hs ≡ None
+  none_kept [] f e = refl
+  none_kept (x ∷ hs) f e =
+      let w = other_serial x hs f in
+      let v = not_first (test x.entry.serial) x (found_in test hs) e in
+      ap (λ t. cond t (Some x) (found_in left hs)) (still_none x.entry.serial w.0 v.0) ∙ none_kept hs w.1 v.1
+
+  none_inserted : (hs : List Held) → holds_serial n hs ≡ false → found_in test hs ≡ None → found_in left (held_inserted b (new_held n k) hs) ≡ None
+  none_inserted [] f e = refl
+  none_inserted (x ∷ hs) f e =
+      let w = other_serial x hs f in
+      let v = not_first (test x.entry.serial) x (found_in test hs) e in
+      by_test (serial_is b x) refl (still_none x.entry.serial w.0 v.0) v.0 (none_kept (x ∷ hs) f e) (none_inserted hs w.1 v.1)
+    where
+      by_test : (t : Bool) → serial_is b x ≡ t → left x.entry.serial ≡ false → test x.entry.serial ≡ false → found_in left (x ∷ hs) ≡ None → found_in left (held_inserted b (new_held n k) hs) ≡ None
+          → found_in left (cond t (new_held n k ∷ x ∷ hs) (x ∷ held_inserted b (new_held n k) hs)) ≡ None
+      by_test true g l e all rest = ap (λ t. cond t (Some (new_held n k)) (found_in left (x ∷ hs))) (none_new (ap test (sym (eqb-true x.entry.serial b g)) ∙ e)) ∙ all
+      by_test false g l e all rest = ap (λ t. cond t (Some x) (found_in left (held_inserted b (new_held n k) hs))) l ∙ rest
+
+  none_behind_kept : (end : ℕ) (hs : List Held) → holds_serial n hs ≡ false → found_in test (behind end hs) ≡ None → found_in left (behind end hs) ≡ None
+  none_behind_kept end [] f e = refl
+  none_behind_kept end (x ∷ hs) f e = by_test (serial_is end x) e (none_behind_kept end hs (other_serial x hs f).1)
+    where
+      by_test : (t : Bool) → found_in test (cond t hs (behind end hs)) ≡ None → (found_in test (behind end hs) ≡ None → found_in left (behind end hs) ≡ None) → found_in left (cond t hs (behind end hs)) ≡ None
+      by_test true q rest = none_kept hs (other_serial x hs f).1 q
+      by_test false q rest = rest q
+
+  behind_inserted : (end : ℕ) (hs : List Held) → nat_eq n end ≡ false → holds_serial n hs ≡ false → found_in test (behind end hs) ≡ None → found_in left (behind end (held_inserted b (new_held n k) hs)) ≡ None
+  behind_inserted end [] d f e = refl
+  behind_inserted end (x ∷ hs) d f e = by_before (serial_is b x) (none_behind_kept end (x ∷ hs) f e) (by_end (serial_is end x) refl e (behind_inserted end hs d (other_serial x hs f).1))
+    where
+      by_end : (t : Bool) → serial_is end x ≡ t → found_in test (cond t hs (behind end hs)) ≡ None → (found_in test (behind end hs) ≡ None → found_in left (behind end (held_inserted b (new_held n k) hs)) ≡ None)
+          → found_in left (behind end (x ∷ held_inserted b (new_held n k) hs)) ≡ None
+      by_end true g q rest = at_behind left x (held_inserted b (new_held n k) hs) end g ∙ none_inserted hs (other_serial x hs f).1 q
+      by_end false g q rest = past_behind left x (held_inserted b (new_held n k) hs) end g ∙ rest q
+
+      by_before : (t : Bool) → found_in left (behind end (x ∷ hs)) ≡ None → found_in left (behind end (x ∷ held_inserted b (new_held n k) hs)) ≡ None
+          → found_in left (behind end (cond t (new_held n k ∷ x ∷ hs) (x ∷ held_inserted b (new_held n k) hs))) ≡ None
+      by_before true all rest = past_behind left (new_held n k) (x ∷ hs) end d ∙ all
+      by_before false all rest = rest
+
+  pub end_inserted : (end : ℕ) (hs : List Held) → nat_eq n end ≡ false → holds_serial n hs ≡ false → next_where test hs end ≡ None → next_where left (held_inserted b (new_held n k) hs) end ≡ None
+  end_inserted end hs d f e = ap (option_map (λ h. h.entry.serial)) (behind_inserted end hs d f (none_of (found_in test (behind end hs)) e))

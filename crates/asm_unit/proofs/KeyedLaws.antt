@@ -10,11 +10,11 @@ use Rattle.asm_unit.specs.Held.{Held, serial_is, holds_serial, AreUnique, new_he
 use Rattle.asm_unit.specs.Keyed.{key_at, number_key, key_in, Keyed}
 use Rattle.asm_unit.proofs.KeyLaws.{HasKey, key_without, values_without, unique_without, key_replaced, values_replaced, unique_put, key_inserted, values_inserted, unique_inserted, key_pushed, values_pushed, unique_pushed, none_holds}
 
-at_end : (ks : List ℕ) (x : ℕ) → slice_index_or (ks ++ x ∷ []) (length ks) 0 ≡ x
+pub at_end : (ks : List ℕ) (x : ℕ) → slice_index_or (ks ++ x ∷ []) (length ks) 0 ≡ x
 at_end [] x = refl
 at_end (k ∷ ks) x = at_end ks x
 
-at_other : (ks : List ℕ) (x t : ℕ) → t ≢ length ks → slice_index_or (ks ++ x ∷ []) t 0 ≡ slice_index_or ks t 0
+pub at_other : (ks : List ℕ) (x t : ℕ) → t ≢ length ks → slice_index_or (ks ++ x ∷ []) t 0 ≡ slice_index_or ks t 0
 at_other [] x zero n = absurd (n refl)
 at_other [] x (suc t) n = refl
 at_other (k ∷ ks) x zero n = refl

@@ -1,8 +1,8 @@
 // The entries of a unit by their serials.
 
-ghost use Rattle.std.specs.Prelude.{◌≡◌, ◌+◌, ◌<◌, ◌^◌, ◌++◌, ◌∷◌, [], ℕ, length, map, find, IfOk, OnOk, OnErr, option_map, IsSome, Some, None};
+ghost use Rattle.std.specs.Prelude.{◌≡◌, ◌+◌, ◌<◌, ◌^◌, ◌++◌, ◌∷◌, [], ℕ, length, map, find, IfOk, OnOk, OnErr, option_map, IsSome, Some, None, false};
 ghost use Rattle.entry_list.specs.Listed.{values_of, value_at};
-ghost use Rattle.asm_unit.specs.Held.{AreNumbered, AreUnique, entries_of, entry_of, span_of, first_of, next_of, prev_of, new_held, held_without, held_put, held_inserted, serial_is};
+ghost use Rattle.asm_unit.specs.Held.{AreNumbered, AreUnique, holds_serial, entries_of, entry_of, span_of, first_of, next_of, prev_of, new_held, held_without, held_put, held_inserted, serial_is};
 ghost use Rattle.asm_unit.specs.Keyed.{key_in};
 
 use crate::held::Held;
@@ -212,6 +212,7 @@ impl HeldList {
         requires there { IsSome (entry_of self.old.held before) }
         requires room { self.old.last + 1 < 2 ^ 32 }
         ensures serial { IfOk result (λ s. s ≡ self.old.last + 1) }
+        ensures fresh { IfOk result (λ s. holds_serial s self.old.held ≡ false) }
         ensures held { IfOk result (λ s. self.new ≡ record { held = held_inserted before (new_held s kind) self.old.held; last = s }) }
         ensures refused { OnErr result (self.new ≡ self.old) }
     {

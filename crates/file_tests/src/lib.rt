@@ -6,6 +6,8 @@ mod cases;
 #[cfg(test)]
 mod causes;
 #[cfg(test)]
+mod edits;
+#[cfg(test)]
 mod functions;
 #[cfg(test)]
 mod jumps;

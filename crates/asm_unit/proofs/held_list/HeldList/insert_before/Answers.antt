@@ -1,9 +1,9 @@
-use Rattle.std.proofs.Common.{◌∙◌, ap, length, arith}
+use Rattle.std.proofs.Common.{◌∙◌, ap, sym, length, arith}
 use Rattle.std.specs.Prelude.{is_some}
-use Rattle.entry_list.specs.Listed.{has_key}
-use Rattle.asm_unit.specs.Held.{entry_of, new_held, held_inserted}
-use Rattle.asm_unit.proofs.KeyLaws.{must, got}
-use Rattle.asm_unit.proofs.KeyedLaws.{insert_fits, same_numbered}
+use Rattle.entry_list.specs.Listed.{has_key, values_of}
+use Rattle.asm_unit.specs.Held.{entry_of, holds_serial, new_held, held_inserted}
+use Rattle.asm_unit.proofs.KeyLaws.{must, got, none_holds}
+use Rattle.asm_unit.proofs.KeyedLaws.{insert_fits, same_numbered, ungiven}
 use Rattle.asm_unit.proofs.held_list.HeldList.insert_before.Goals as goal
 
 pub key_there-key-requires : goal.key_there-key-requires
@@ -24,6 +24,9 @@ returns c =
     (omega (arith, c.requires.room, ap (λ v. v.last) c.self.view_is, c.self.invariant.some)) in
     record {
       serial = omega (arith, c.len-serial.ensures, c.reserve.new.self.ok.0, ap length c.reserve.ensures.items, ap (λ v. v.last) c.self.view_is, c.self.invariant.some);
+      fresh = ap (λ v. holds_serial c.len-serial.result v.held) (sym c.self.view_is)
+          ∙ ap (λ n. holds_serial n (values_of c.self.inside.list.pairs)) (omega (arith, c.len-serial.ensures, c.reserve.new.self.ok.0, ap length c.reserve.ensures.items))
+          ∙ none_holds c.self.inside.list.pairs (length c.self.inside.keys.items) (ungiven c.self.inside.list.pairs c.self.inside.keys.items c.self.invariant);
       held = same_numbered _ _ _ _ (f.values ∙ ap (λ v. held_inserted c.args.before (new_held c.len-serial.result c.args.kind) v.held) c.self.view_is) f.last;
       refused = tt;
     }

@@ -25,11 +25,13 @@ invariant_of-self c =
     let ds = decided_from 0 u.functions.items u.tables u.table_owners.items in
     let removable : is_removable_entry (entry_of u.held.held serial) ≡ true = insn_removable _ (ap (λ v. is_insn_entry (entry_of v.held serial)) c.self.view_is ∙ c.requires.instruction) in
     let clear : in_clear_code ds (functions (placed (entries_of u.held.held))) serial ≡ true = ap (λ v. in_clear_code v.decided (functions_of v) serial) c.self.view_is ∙ c.requires.clear in
-    subst (λ hs. Keeps hs u.functions.items u.owners.items u.tables u.table_owners.items u.names) (sym (ap (λ l. l.held) c.put.ensures))
+    subst (λ l. Keeps l.held l.last u.functions.items u.owners.items u.tables u.table_owners.items u.names) (sym c.put.ensures)
     (record {
       fits = fits_put serial k u.held.held ds u.functions.items u.owners.items c.self.invariant.fits removable refl clear;
       tell = names_last u.held.held (held_put serial k u.held.held) u.functions.items u.tables u.table_owners.items u.names
           (ap lasting (entries_put serial k u.held.held) ∙ put_lasts serial k (entries_of u.held.held) refl (is_removable_once serial u.held.held c.self.invariant.fits.unique removable)) c.self.invariant.tell;
+      many = c.self.invariant.many;
+      given = c.self.invariant.given;
     })
 
 pub returns-clause-functions : goal.returns-clause-functions
