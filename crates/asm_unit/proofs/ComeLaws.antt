@@ -8,7 +8,7 @@ use Rattle.insn_ir.specs.declared.entry.EntryKind.{EntryKind}
 use Rattle.insn_ir.specs.declared.entry.Entry.{Entry}
 use Rattle.insn_ir.specs.Entries.{lines_of, is_nop_entry}
 use Rattle.insn_ir.proofs.SameLaws.{same_sym}
-use Rattle.insn_ir.specs.Code.{Code, One, Mark, Do}
+use Rattle.insn_ir.specs.Code.{Code, One, LocalLabel, Do}
 use Rattle.jump_tables.specs.Sections.{Section, Placed, placed_from, placed, text, section_after}
 use Rattle.asm_unit.specs.Functions.{Part, is_align_kind, label_of, code_part, parts, functions}
 use Rattle.asm_unit.specs.Decisions.{Decision, code_with, codes_with, codes}
@@ -33,7 +33,7 @@ line_head k xs ys e = by_kind k
   where
     by_kind : (k : EntryKind) → lines_of (k ∷ xs) ≡ lines_of (k ∷ ys)
     by_kind (EntryKind.Insn i) = ap (λ ls. Do (One i) ∷ ls) e
-    by_kind (EntryKind.Label n) = ap (λ ls. Mark n ∷ ls) e
+    by_kind (EntryKind.Label n) = ap (λ ls. LocalLabel n ∷ ls) e
     by_kind _ = e
 
 abbrev kinds : List Placed → List EntryKind
