@@ -25,6 +25,10 @@ front_of done part rest all n lt e = (
   ap (take (length done + n)) (sym e) ∙ take-append-add done (part ++ rest) n ∙ ap (λ l. done ++ l) (take-append-le n part rest (omega arith)),
 )
 
+-- of nothing each part is nothing
+pub none_of : (done part rest all : List ℕ) → done ++ (part ++ rest) ≡ all → length all ≡ 0 → length part ≡ 0
+none_of done part rest all e none = omega (arith, none, ap length e, length-append done (part ++ rest), length-append part rest)
+
 pub Appends-none : (known : Option (List ℕ)) → Appends known known []
 Appends-none None = tt
 Appends-none (Some xs) = sym (append-nil xs)

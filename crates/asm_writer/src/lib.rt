@@ -9,9 +9,6 @@ mod sink;
 mod text;
 mod unit;
 
-pub use fragment::{Fragment, Fragments};
-pub use line::{align_fragments, insn_fragments};
-pub use sink::put_fragments;
 pub use text::{directive_text, insn_text};
 pub use unit::write_unit;
 

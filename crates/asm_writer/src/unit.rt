@@ -4,8 +4,10 @@ ghost use Rattle.std.specs.Prelude.{◌≡◌, ◌<◌, ◌++◌, [], ℕ, take,
 ghost use Rattle.std.specs.Bool.{OnTrue, OnFalse};
 ghost use Rattle.std.specs.Io.KnownBytes.{Appends};
 ghost use Rattle.mao_outside.specs.Causes.{HasCause};
+ghost use Rattle.att_grammar.specs.Canonical.{line_of};
+ghost use Rattle.att_grammar.specs.Entries.{IsOfProfile};
 ghost use Rattle.asm_writer.specs.Fragments.{fragments_text};
-ghost use Rattle.asm_writer.specs.Unit.{new_line, new_text, entry_text, unit_text, IsOfProfile, IsWritable, AreWritable};
+ghost use Rattle.asm_writer.specs.Unit.{new_text, entry_text, unit_text, IsWritable, AreWritable};
 ghost use Rattle.asm_writer.specs.Runs.{IsRun, run_text, text_at, Passes, waits};
 
 use crate::fragment::Fragment;
@@ -36,6 +38,7 @@ fn put_gathered<K: Sink>(sink: &mut K, gathered: &mut Gathered) -> Result<(), Fa
     ensures none { OnOk result (gathered.new.items ≡ []) }
     ensures part { OnErr result ((n : ℕ) × (n < length gathered.old.items)
         × Appends (K.taken sink.old) (K.taken sink.new) (take n gathered.old.items)) }
+    ensures idle { length gathered.old.items ≡ 0 → sink.new ≡ sink.old }
     ensures cause { HasCause (K.faults sink.old) (K.faults sink.new) result }
 {
     put_all(sink, gathered.as_slice())?;
@@ -56,6 +59,7 @@ fn gather<K: Sink>(sink: &mut K, gathered: &mut Gathered, bytes: &[u8]) -> Resul
     ensures all { OnOk result (Passes (K.taken sink.old) (K.taken sink.new) (gathered.old.items ++ bytes.now) gathered.new.items) }
     ensures part { OnErr result ((n : ℕ) × (n < length (gathered.old.items ++ bytes.now))
         × Appends (K.taken sink.old) (K.taken sink.new) (take n (gathered.old.items ++ bytes.now))) }
+    ensures idle { length (gathered.old.items ++ bytes.now) ≡ 0 → sink.new ≡ sink.old }
     ensures cause { HasCause (K.faults sink.old) (K.faults sink.new) result }
 {
     if join(gathered, bytes) {
@@ -71,9 +75,9 @@ fn gather<K: Sink>(sink: &mut K, gathered: &mut Gathered, bytes: &[u8]) -> Resul
 
 // A tab, what the fragments say, and a newline.
 fn put_line<K: Sink>(sink: &mut K, fragments: &[Fragment<'_>]) -> Result<(), Failed>
-    ensures all { OnOk result (Appends (K.taken sink.old) (K.taken sink.new) (new_line (fragments_text fragments.now))) }
-    ensures part { OnErr result ((n : ℕ) × (n < length (new_line (fragments_text fragments.now)))
-        × Appends (K.taken sink.old) (K.taken sink.new) (take n (new_line (fragments_text fragments.now)))) }
+    ensures all { OnOk result (Appends (K.taken sink.old) (K.taken sink.new) (line_of (fragments_text fragments.now))) }
+    ensures part { OnErr result ((n : ℕ) × (n < length (line_of (fragments_text fragments.now)))
+        × Appends (K.taken sink.old) (K.taken sink.new) (take n (line_of (fragments_text fragments.now)))) }
     ensures cause { HasCause (K.faults sink.old) (K.faults sink.new) result }
 {
     put_all(sink, b"\t")?;
@@ -88,6 +92,7 @@ fn put_new<K: Sink>(sink: &mut K, kind: &EntryKind) -> Result<(), Failed>
     ensures all { OnOk result (Appends (K.taken sink.old) (K.taken sink.new) (new_text kind.now)) }
     ensures part { OnErr result ((n : ℕ) × (n < length (new_text kind.now))
         × Appends (K.taken sink.old) (K.taken sink.new) (take n (new_text kind.now))) }
+    ensures idle { length (new_text kind.now) ≡ 0 → sink.new ≡ sink.old }
     ensures cause { HasCause (K.faults sink.old) (K.faults sink.new) result }
 {
     match kind {
@@ -114,6 +119,7 @@ fn pass<K: Sink>(
     ensures all { IfOk result (λ next. Passes (K.taken sink.old) (K.taken sink.new) (waits gathered.old.items text.now run ++ entry_text text.now kind.now span) (waits gathered.new.items text.now next)) }
     ensures part { OnErr result ((n : ℕ) × (n < length (waits gathered.old.items text.now run ++ entry_text text.now kind.now span))
         × Appends (K.taken sink.old) (K.taken sink.new) (take n (waits gathered.old.items text.now run ++ entry_text text.now kind.now span))) }
+    ensures idle { length (waits gathered.old.items text.now run ++ entry_text text.now kind.now span) ≡ 0 → sink.new ≡ sink.old }
     ensures cause { HasCause (K.faults sink.old) (K.faults sink.new) result }
 {
     let Some(span) = span else {
@@ -149,6 +155,7 @@ fn pass_entry<K: Sink>(
     ensures all { IfOk result (λ next. Passes (K.taken sink.old) (K.taken sink.new) (waits gathered.old.items text.now run ++ text_at text.now unit.now.held serial) (waits gathered.new.items text.now next)) }
     ensures part { OnErr result ((n : ℕ) × (n < length (waits gathered.old.items text.now run ++ text_at text.now unit.now.held serial))
         × Appends (K.taken sink.old) (K.taken sink.new) (take n (waits gathered.old.items text.now run ++ text_at text.now unit.now.held serial))) }
+    ensures idle { length (waits gathered.old.items text.now run ++ text_at text.now unit.now.held serial) ≡ 0 → sink.new ≡ sink.old }
     ensures cause { HasCause (K.faults sink.old) (K.faults sink.new) result }
 {
     match unit.entry(serial) {
@@ -168,6 +175,7 @@ fn put_rest<K: Sink>(
     ensures all { OnOk result (Appends (K.taken sink.old) (K.taken sink.new) (waits gathered.old.items text.now run)) }
     ensures part { OnErr result ((n : ℕ) × (n < length (waits gathered.old.items text.now run))
         × Appends (K.taken sink.old) (K.taken sink.new) (take n (waits gathered.old.items text.now run))) }
+    ensures idle { length (waits gathered.old.items text.now run) ≡ 0 → sink.new ≡ sink.old }
     ensures cause { HasCause (K.faults sink.old) (K.faults sink.new) result }
 {
     gather(sink, gathered, &text[run.from..run.to])?;
@@ -179,12 +187,13 @@ fn put_rest<K: Sink>(
 /// and an entry that has no piece is a tab, its canonical text and a newline.
 ///
 /// Kept pieces are put together, some thousand bytes a call. It takes no memory. `Failed` comes only where the sink
-/// counted a fault; then a proper prefix was taken.
+/// counted a fault; then a proper prefix was taken. Where the text is empty the sink isn't called.
 pub fn write_unit<K: Sink>(unit: &AsmUnit, text: &[u8], sink: &mut K) -> Result<(), Failed>
     requires writable { AreWritable text.now unit.now.held }
     ensures all { OnOk result (Appends (K.taken sink.old) (K.taken sink.new) (unit_text text.now unit.now.held)) }
     ensures part { OnErr result ((n : ℕ) × (n < length (unit_text text.now unit.now.held))
         × Appends (K.taken sink.old) (K.taken sink.new) (take n (unit_text text.now unit.now.held))) }
+    ensures idle { length (unit_text text.now unit.now.held) ≡ 0 → sink.new ≡ sink.old }
     ensures cause { HasCause (K.faults sink.old) (K.faults sink.new) result }
 {
     let mut gathered = Gathered::new();

@@ -4,7 +4,7 @@ use Rattle.std.proofs.lemmas.Result.{err_from_is_err_and}
 use Rattle.asm_unit.specs.Held.{first_of, next_of}
 use Rattle.asm_writer.specs.Unit.{unit_text}
 use Rattle.asm_writer.specs.Runs.{waits, text_at}
-use Rattle.asm_writer.proofs.Puts.{Appends-append, Appends-none, put_part}
+use Rattle.asm_writer.proofs.Puts.{Appends-append, Appends-none, none_of, put_part}
 use Rattle.asm_writer.proofs.UnitLaws.{from_serial, from_first, step_of, next_there, shorter, text_split, none_from_none, whole_passed, whole_cut}
 use Rattle.asm_writer.proofs.unit.write_unit.Goals as goal
 
@@ -20,6 +20,7 @@ loop-at-init g c =
         Appends-none (g.K.Sink.taken c.args.sink.now),
         ap (λ l. waits l c.args.text.now (record { from = 0; to = 0 }) ++ unit_text c.args.text.now (from_serial c.first-at.result hs)) c.new-gathered.ensures ∙ ap (unit_text c.args.text.now) all,
       );
+      idle = λ none. refl;
       later = omega arith;
     }
 
@@ -37,6 +38,20 @@ returns-in_err-run-clause-part g c =
     let p = err_from_is_err_and c.from_residual.result c.from_residual.ensures.1 in
     rw p.1 (put_part (sink.taken c.args.sink.now) (sink.taken c.loop-at.sink) (sink.taken c.pass_entry.new.sink) before.put.0 (waits c.loop-at.gathered.items text c.loop-at.run ++ here) rest (unit_text text hs)
     before.put.1 c.in_err-run.ensures.part (whole_cut before.put.0 (waits c.loop-at.gathered.items text c.loop-at.run) here rest (unit_text text (from_serial c.loop-at.at hs)) (unit_text text hs) split before.put.2))
+
+pub returns-in_err-run-clause-idle : goal.returns-in_err-run-clause-idle
+returns-in_err-run-clause-idle g c = λ none.
+    let hs = c.args.unit.now.held in
+    let text = c.args.text.now in
+    let before = c.loop-at.invariant in
+    let s = c.in-Some.serial in
+    let step = step_of hs c.loop-at.at s c.first-at.ensures.rise c.in-Some.is before.there in
+    let rest = unit_text text (from_serial (next_of hs s) hs) in
+    let split = text_split text hs c.loop-at.at (next_of hs s) s step c.in-Some.is refl in
+    let waiting = waits c.loop-at.gathered.items text c.loop-at.run in
+    c.pass_entry.ensures.idle (none_of before.put.0 (waiting ++ text_at text hs s) rest (unit_text text hs)
+    (whole_cut before.put.0 waiting (text_at text hs s) rest (unit_text text (from_serial c.loop-at.at hs)) (unit_text text hs) split before.put.2) none)
+    ∙ before.idle none
 
 pub loop-at-smaller : goal.loop-at-smaller
 loop-at-smaller g c =
@@ -63,6 +78,10 @@ loop-at-preserved g c =
         Appends-append (sink.taken c.args.sink.now) (sink.taken c.loop-at.sink) (sink.taken c.pass_entry.new.sink) before.put.0 more.0 before.put.1 more.1,
         whole_passed before.put.0 more.0 (waits c.pass_entry.new.gathered.items text c.in_ok-run.run') (waits c.loop-at.gathered.items text c.loop-at.run) (text_at text hs s) (unit_text text (from_serial c.next-at.result hs)) (unit_text text (from_serial c.loop-at.at hs)) (unit_text text hs) more.2 split before.put.2,
       );
+      idle = λ none.
+          c.pass_entry.ensures.idle (none_of before.put.0 (waits c.loop-at.gathered.items text c.loop-at.run ++ text_at text hs s) (unit_text text (from_serial c.next-at.result hs)) (unit_text text hs)
+          (whole_cut before.put.0 (waits c.loop-at.gathered.items text c.loop-at.run) (text_at text hs s) (unit_text text (from_serial c.next-at.result hs)) (unit_text text (from_serial c.loop-at.at hs)) (unit_text text hs) split before.put.2) none)
+          ∙ before.idle none;
       later = omega (arith, before.later, c.pass_entry.ensures.cause.later);
     }
 
@@ -89,3 +108,11 @@ returns-clause-all g c =
     let whole : before.put.0 ++ rest ≡ unit_text text hs = ap (λ l. before.put.0 ++ l) (sym (append-nil rest)) ∙ ap (λ l. before.put.0 ++ (rest ++ l)) (sym none) ∙ before.put.2 in
     subst (Appends (sink.taken c.args.sink.now) (sink.taken c.put_rest.new.sink)) whole
     (Appends-append (sink.taken c.args.sink.now) (sink.taken c.loop-at.sink) (sink.taken c.put_rest.new.sink) before.put.0 rest before.put.1 c.in_ok-put_rest.ensures.all)
+
+pub returns-clause-idle : goal.returns-clause-idle
+returns-clause-idle g c = λ none.
+    let hs = c.args.unit.now.held in
+    let text = c.args.text.now in
+    let before = c.loop-at.invariant in
+    let waiting = waits c.loop-at.gathered.items text c.loop-at.run in
+    c.put_rest.ensures.idle (none_of before.put.0 waiting (unit_text text (from_serial c.loop-at.at hs)) (unit_text text hs) before.put.2 none) ∙ before.idle none

@@ -16,6 +16,7 @@ invariant-loop-at g l =
       run : IsRun l.text l.run;
       put : (done : List ℕ) × Appends (sink.taken l.initial.sink) (sink.taken l.sink) done
           × (done ++ (waits l.gathered.items l.text l.run ++ unit_text l.text left) ≡ unit_text l.text l.unit.held);
+      idle : length (unit_text l.text l.unit.held) ≡ 0 → l.sink ≡ l.initial.sink;
       later : sink.faults l.initial.sink ≤ sink.faults l.sink;
     }
 
