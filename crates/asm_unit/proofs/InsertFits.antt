@@ -1,5 +1,5 @@
 -- What is kept beside the entries fits them after one came before an entry of a clear function's code.
-use Rattle.std.proofs.Common.{◌≡◌, ◌≢◌, ℕ, zero, suc, ◌+◌, ◌-◌, ◌<◌, ◌≤◌, Bool, true, false, cond, ◌||◌, nat_eq, inl, inr, List, [], ◌∷◌, ◌++◌, map, length, Option, Some, None, refl, sym, ap, ◌∙◌, arith, subst, option_map, length-append}
+use Rattle.std.proofs.Common.{◌≡◌, ◌≢◌, ℕ, suc, ◌+◌, ◌-◌, ◌<◌, ◌≤◌, Bool, true, false, cond, ◌||◌, nat_eq, inl, inr, List, [], ◌∷◌, ◌++◌, map, length, Option, Some, None, refl, sym, ap, ◌∙◌, arith, subst, option_map, length-append}
 use Rattle.std.specs.Prelude.{◌&&◌, slice_get, slice_index_or, find, is_some, bytes_eq}
 use Rattle.std.specs.List.{AllByRecursion}
 use Rattle.std.proofs.lemmas.Bool.{cases_eq, eq-eqb, ne_eqb, eqb-true, or_parts}
@@ -13,13 +13,13 @@ use Rattle.asm_unit.specs.declared.defined_names.DefinedNames.{DefinedNames}
 use Rattle.asm_unit.specs.Functions.{Part, nothing, functions, section_of, code_part}
 use Rattle.asm_unit.specs.Tables.{is_among}
 use Rattle.asm_unit.specs.Decisions.{Decision, is_clear}
-use Rattle.asm_unit.specs.Edits.{is_frame, has_serial}
+use Rattle.asm_unit.specs.Edits.{is_frame}
 use Rattle.asm_unit.specs.Grown.{Lacks, AreOnce, inserted, section_before, prev_placed, stands_among, part_with}
 use Rattle.asm_unit.specs.Held.{Held, serial_is, holds_serial, held_entry, entry_of, prev_from, prev_of, entries_of, new_held, held_inserted}
 use Rattle.asm_unit.specs.LabelOwners.{target_within}
 use Rattle.asm_unit.specs.Lasting.{lasting}
 use Rattle.asm_unit.specs.Unit.{in_clear_code, is_removable}
-use Rattle.asm_unit.specs.UnitFields.{decided_from, lead_power, leads_with, owner_at, owner_with, owner_between, AllStand, OwnersTell, Fits}
+use Rattle.asm_unit.specs.UnitFields.{decided_from, lead_power, leads_with, owner_at, owner_with, owner_between, AllStand}
 use Rattle.asm_unit.specs.DefinedNames.{NamesTell, Keeps}
 use Rattle.asm_unit.proofs.BaseLaws.{heads_label}
 use Rattle.asm_unit.proofs.BuildLaws.{get_some}

@@ -1,26 +1,20 @@
 -- An entry comes before one of a code: what is kept beside the entries follows.
-use Rattle.std.proofs.Common.{◌≡◌, ◌≢◌, ◌⊎◌, ℕ, zero, suc, ◌+◌, ◌-◌, ◌<◌, ◌≤◌, Bool, true, false, cond, ◌||◌, nat_eq, inl, inr, List, [], ◌∷◌, ◌++◌, map, max, filter, length, Option, Some, None, refl, sym, ap, ◌∙◌, arith, subst, option_map, append-nil, length-append}
-use Rattle.std.specs.Prelude.{◌&&◌, slice_get, slice_index_or, slice_set, find, is_some}
+use Rattle.std.proofs.Common.{◌≡◌, ◌⊎◌, ℕ, zero, suc, ◌+◌, ◌<◌, ◌≤◌, Bool, true, false, cond, ◌||◌, nat_eq, inl, inr, List, [], ◌∷◌, ◌++◌, map, length, Option, Some, None, refl, sym, ap, ◌∙◌, arith, subst, option_map, append-nil}
+use Rattle.std.specs.Prelude.{◌&&◌, slice_index_or, slice_set, find}
 use Rattle.std.specs.List.{AllByRecursion}
-use Rattle.std.proofs.lemmas.Bool.{cases_eq, eq-eqb, ne_eqb, eqb-true, or_parts}
-use Rattle.std.proofs.lemmas.List.{length-map, get_or-map}
+use Rattle.std.proofs.lemmas.Bool.{eq-eqb, ne_eqb, eqb-true, or_parts}
 use Rattle.insn_ir.specs.declared.entry.EntryKind.{EntryKind}
-use Rattle.insn_ir.specs.declared.entry.Entry.{Entry}
 use Rattle.jump_tables.specs.declared.table.Table as FileTable
-use Rattle.jump_tables.specs.Sections.{Placed, placed, text}
-use Rattle.asm_unit.specs.declared.layout.FunctionBounds.{FunctionBounds}
+use Rattle.jump_tables.specs.Sections.{Placed}
 use Rattle.asm_unit.specs.declared.decide.DecidedFunction.{DecidedFunction}
-use Rattle.asm_unit.specs.Functions.{Part, nothing, functions, parts, label_of, code_part, base_power, leads_kind, full_power, greatest, longest_lead}
+use Rattle.asm_unit.specs.Functions.{Part, nothing, label_of, code_part, base_power, leads_kind, full_power, greatest, longest_lead}
 use Rattle.asm_unit.specs.Tables.{is_among}
-use Rattle.asm_unit.specs.Decisions.{Decision, is_clear}
-use Rattle.asm_unit.specs.Edits.{is_frame, has_serial}
-use Rattle.asm_unit.specs.Grown.{Lacks, inserted, put_before, heads, section_before, part_with}
+use Rattle.asm_unit.specs.Edits.{is_frame}
+use Rattle.asm_unit.specs.Grown.{put_before, heads, part_with}
 use Rattle.asm_unit.specs.Held.{Held, holds_serial, behind, new_held, held_inserted}
-use Rattle.asm_unit.specs.Unit.{in_clear_code}
-use Rattle.asm_unit.specs.UnitFields.{StandsAt, AllStand, decided_at, decided_from, lead_power, power_behind, lead_with, leads_with, owner_at, owner_with}
+use Rattle.asm_unit.specs.UnitFields.{StandsAt, AllStand, decided_at, decided_from, lead_power, power_behind, lead_with, leads_with}
 use Rattle.asm_unit.proofs.EndLaws.{end_inserted}
 use Rattle.asm_unit.proofs.GrownCodes.{label_with, among_others}
-use Rattle.asm_unit.proofs.StandLaws.{IsClearBefore}
 use Rattle.asm_unit.proofs.WalkParts.{lead_goes_on, lead_stops, greatest_more, map_more}
 
 no : {P : Type 0} → true ≡ false → P
