@@ -13,3 +13,4 @@ pub mod NoteLaws
 pub mod ToldLaws
 pub mod PreparedLaws
 pub mod LineLaws
+pub mod FrozenLaws

@@ -9,3 +9,4 @@ pub mod Behaves
 pub mod Prepared
 pub mod Delivered
 pub mod Removal
+pub mod Frozen

@@ -3,6 +3,7 @@ ghost use Rattle.std.specs.Prelude.{◌≡◌, ◌≢◌, ◌↔◌, ◌⊎◌, 
 ghost use Rattle.mao_outside.specs.Causes.{Rose};
 ghost use Rattle.mao_core.specs.Input.{IsReadInPart};
 ghost use Rattle.mao_core.specs.Outcome.{IsCommand, IsWithinLimits, IsFiltered, IsCutInNotes, IsCutShort, IsSeenTooBig};
+ghost use Rattle.mao_core.specs.Frozen.{LeavesFrozen};
 ghost use Rattle.mao_core.specs.Prepared.{IsPrepared};
 ghost use Rattle.mao_core.specs.Delivered.{IsDelivered};
 ghost use Rattle.mao_core.specs.Told.{status_line, IsOffered};
@@ -107,6 +108,8 @@ pub fn mao<S: Source, O: Sink, N: Sink>(
     ensures fine { result.status ≡ Status.Fine
         → IsFiltered (S.left source.old) (S.left source.new) (O.taken out.old) (O.taken out.new)
         (N.taken notes.old) (N.taken notes.new) result.removed }
+    ensures frozen { result.status ≡ Status.Fine
+        → LeavesFrozen (S.left source.old) (S.left source.new) (O.taken out.old) (O.taken out.new) result.removed }
     ensures read_fault { result.status ≡ Status.ReadFault → Rose (S.faults source.old) (S.faults source.new) }
     ensures too_big { result.status ≡ Status.TooBig → IsSeenTooBig (S.left source.old) (S.left source.new) }
     ensures write_fault { result.status ≡ Status.WriteFault → Rose (O.faults out.old) (O.faults out.new) }
