@@ -1,2 +1,6 @@
 pub mod Fronts
 pub mod Chunks
+pub mod Rounds
+pub mod Changes
+pub mod Untouched
+mod Examples
