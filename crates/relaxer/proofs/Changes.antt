@@ -5,7 +5,9 @@ use Rattle.std.proofs.lemmas.Bool.{cases_lt}
 use Rattle.std.proofs.lemmas.List.{take_all, get_or_past}
 use Rattle.std.proofs.lemmas.List.Sums.{sum_by_more, sum_by-cons}
 use Rattle.std.proofs.lemmas.Int.{ints}
-use Rattle.relaxer.specs.Layout.{Item, Fixed, Short, Near, Align, padding_within, size_at, sizes_from, sizes_of, offset_of, displacement, grown, grown_from, next_round, Spans, KeepsSize}
+use Rattle.relaxer.specs.declared.item.Item.{Item}
+use Rattle.relaxer.specs.declared.item.Item.TheVariants.{Fixed, Short, Near, Align}
+use Rattle.relaxer.specs.Layout.{padding_within, size_at, sizes_from, sizes_of, offset_of, displacement, grown, grown_from, next_round, Spans, KeepsSize}
 use Rattle.relaxer.proofs.Fronts.{sum_take_changed, sum_take_kept}
 use Rattle.relaxer.proofs.Rounds.{fit_stays}
 

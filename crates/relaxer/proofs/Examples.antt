@@ -1,7 +1,9 @@
 -- Layouts that are worked out by hand. A `jmp` has 2 bytes where it is short, and 5 where it is near.
 use Rattle.std.proofs.Common.{◌≡◌, ◌++◌, ℕ, List, [], ◌∷◌, replicate, refl}
 use Rattle.std.specs.Prelude.{pos, negsuc, Some, None, sum}
-use Rattle.relaxer.specs.Layout.{Item, Fixed, Short, Near, Align, sizes_of, offset_of, displacement, round, IsLayout}
+use Rattle.relaxer.specs.declared.item.Item.{Item}
+use Rattle.relaxer.specs.declared.item.Item.TheVariants.{Fixed, Short, Near, Align}
+use Rattle.relaxer.specs.Layout.{sizes_of, offset_of, displacement, round, IsLayout}
 use Rattle.relaxer.proofs.Rounds.{layout_by, layout_at_once}
 
 abbrev nops : ℕ → List Item

@@ -2,5 +2,6 @@ pub mod Fronts
 pub mod Chunks
 pub mod Rounds
 pub mod Changes
+pub mod Built
 pub mod Untouched
 mod Examples

@@ -3,7 +3,9 @@ use Rattle.std.proofs.Common.{◌≡◌, ◌<◌, ◌≤◌, ◌+◌, ◌-◌, �
 use Rattle.std.specs.Prelude.{◌&&◌}
 use Rattle.std.proofs.lemmas.Bool.{both_ways, and_parts, cases_Bool, false_from_ne_true, cond-true, cond-false, cases_order}
 use Rattle.std.proofs.lemmas.List.Sums.{sum_by-cons}
-use Rattle.relaxer.specs.Layout.{Item, Fixed, Short, Near, Align, sizes_of, displacement, is_in_reach, fits, fit_from, AllFit, grown, grown_from, next_round, round, IsLayout, is_short, short_count}
+use Rattle.relaxer.specs.declared.item.Item.{Item}
+use Rattle.relaxer.specs.declared.item.Item.TheVariants.{Fixed, Short, Near, Align}
+use Rattle.relaxer.specs.Layout.{sizes_of, displacement, is_in_reach, fits, fit_from, AllFit, grown, grown_from, next_round, round, IsLayout, is_short, short_count}
 
 weight : Item → ℕ
 weight item = cond (is_short item) 1 0

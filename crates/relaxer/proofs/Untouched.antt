@@ -4,7 +4,9 @@ use Rattle.std.specs.Prelude.{Option, Some, None, option_map, slice_get, slice_i
 use Rattle.std.proofs.lemmas.Bool.{cases_Bool, cond-true, cond-false}
 use Rattle.std.proofs.lemmas.List.{get_or_past}
 use Rattle.std.proofs.lemmas.Option.{slice_get_cases}
-use Rattle.relaxer.specs.Layout.{Item, Fixed, Short, Near, Align, size_at, sizes_of, offset_of, displacement, is_in_reach, fits, grown, next_round, Spans}
+use Rattle.relaxer.specs.declared.item.Item.{Item}
+use Rattle.relaxer.specs.declared.item.Item.TheVariants.{Fixed, Short, Near, Align}
+use Rattle.relaxer.specs.Layout.{size_at, sizes_of, offset_of, displacement, is_in_reach, fits, grown, next_round, Spans}
 use Rattle.relaxer.proofs.Rounds.{fit_stays}
 use Rattle.relaxer.proofs.Changes.{sum_more, displacements_stay, length-sizes_of, length-next_round, entry_of_next, next_size}
 

@@ -1,18 +1,8 @@
 -- Layout of a code: which direct jumps are short and which are near, and how many bytes each entry takes (GNU as, "Relaxation" of
 -- its internals: a jump begins short and grows where its target is out of reach).
 use Rattle.std.specs.Prelude.{◌≡◌, ◌+◌, ◌-◌, ◌%◌, ◌^◌, ◌<◌, ◌≤◌, ◌⊎◌, ◌-ℤ◌, ◌&&◌, ⊤, ℕ, zero, suc, ℤ, pos, negsuc, Bool, true, false, if◌then◌else◌, IsTrue, nat_lt, List, [], ◌∷◌, Option, Some, None, take, sum, count_by}
-
--- What layout looks at in an entry. Entries count from 0 at the label of the function.
-pub data Item : Type 0 where
-  -- an instruction that isn't a direct jump to a local label, or a jump to a symbol that the file doesn't define, which is near; a
-  -- label or another entry that takes no bytes has size 0
-  Fixed : (size : ℕ) → Item
-  -- a direct jump to the local label at entry `target` that is short; `near` is its size once it is near
-  Short : (size near target : ℕ) → Item
-  -- one that is near
-  Near : (size target : ℕ) → Item
-  -- an alignment to a multiple of 2^power, with the most bytes that it may skip
-  Align : (power : ℕ) → (max : Option ℕ) → Item
+use Rattle.relaxer.specs.declared.item.Item.{Item}
+use Rattle.relaxer.specs.declared.item.Item.TheVariants.{Fixed, Short, Near, Align}
 
 -- An alignment skips to the next multiple of 2^power, and nothing at all where that takes more than its maximum (GNU as manual,
 -- `.p2align`).

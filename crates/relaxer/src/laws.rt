@@ -1,7 +1,9 @@
 // Laws of rounds, each the contract of a function that does nothing.
 
 ghost use Rattle.std.specs.Prelude.{◌≡◌, ◌<◌, ◌≤◌, ◌+ℤ◌, ℕ, pos, List, Some, length, option_map, slice_get, slice_index, slice_set, IsTrue};
-ghost use Rattle.relaxer.specs.Layout.{Item, Short, size_at, sizes_of, offset_of, displacement, is_in_reach, fits, AllFit, grown, next_round, IsLayout, short_count, Spans, KeepsSize};
+ghost use Rattle.relaxer.specs.declared.item.Item.{Item};
+ghost use Rattle.relaxer.specs.declared.item.Item.TheVariants.{Short};
+ghost use Rattle.relaxer.specs.Layout.{size_at, sizes_of, offset_of, displacement, is_in_reach, fits, AllFit, grown, next_round, IsLayout, short_count, Spans, KeepsSize};
 
 /// Rounds end: a round that isn't the last makes a jump near, so there are at most as many rounds as short jumps, and one more. There
 /// is one layout, and a round after it would change nothing.

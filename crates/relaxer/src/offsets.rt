@@ -2,6 +2,7 @@
 
 ghost use Rattle.std.specs.Prelude.{◌≡◌, ◌≤◌, ◌<◌, ◌^◌, ℕ, List, IfOk, length, sum, take, slice_set};
 ghost use Rattle.relaxer.specs.Sizes.{AreSizes};
+ghost use Rattle.relaxer.specs.Layout.{displacement};
 ghost use Rattle.relaxer.specs.Chunks.{HasSmallChunks, HasSums};
 
 use std::alloc::{AllocError, Global};
@@ -73,6 +74,17 @@ impl Offsets {
         total(&self.groups[..group])
             + total(&self.chunks[CHUNK * group..chunk])
             + total(&self.sizes[CHUNK * chunk..i])
+    }
+
+    /// From the end of the jump at entry `i` to its target, in bytes.
+    pub fn displacement(&self, i: usize, target: usize) -> i64
+        requires from { i < length self.now }
+        requires to { target ≤ length self.now }
+        ensures { result ≡ displacement self.now i target }
+    {
+        // the invariant bounds what follows
+        let _ = &self.sizes;
+        self.offset(target) as i64 - self.offset(i + 1) as i64
     }
 
     /// Makes `size` the size of entry `i`.
