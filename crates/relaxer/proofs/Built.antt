@@ -1,6 +1,6 @@
 -- Sizes of entries as they are built.
-use Rattle.std.proofs.Common.{◌≡◌, ◌<◌, ◌≤◌, ◌+◌, ◌-◌, ◌*◌, ◌%◌, ◌^◌, ◌++◌, ℕ, List, [], ◌∷◌, arith, ap, ◌∙◌, sym}
-use Rattle.std.specs.Prelude.{sum, All, Option, Some, None, nat_lt}
+use Rattle.std.proofs.Common.{◌≡◌, ◌<◌, ◌≤◌, ◌+◌, ◌-◌, ◌*◌, ◌%◌, ◌^◌, ◌++◌, ℕ, suc, List, [], ◌∷◌, length, take, get_or, arith, ap, ◌∙◌, sym, refl}
+use Rattle.std.specs.Prelude.{sum, All, Option, Some, None, nat_lt, slice_get, slice_index}
 use Rattle.std.proofs.Math.Nat.{mul-le-mul_left}
 use Rattle.std.proofs.lemmas.Nat.{pow_pos, pow-add}
 use Rattle.std.proofs.lemmas.Bool.{cond_both}
@@ -9,7 +9,7 @@ use Rattle.std.proofs.lemmas.List.Sums.{sum_by-cons}
 use Rattle.relaxer.specs.declared.item.Item.{Item}
 use Rattle.relaxer.specs.declared.item.Item.TheVariants.{Fixed, Short, Near, Align}
 use Rattle.relaxer.specs.Sizes.{IsItem, AreItems, AreSizes}
-use Rattle.relaxer.specs.Layout.{padding_within, size_at, sizes_from, sizes_of}
+use Rattle.relaxer.specs.Layout.{padding_within, size_at, sizes_from, sizes_of, offset_of}
 use Rattle.relaxer.proofs.Changes.{length-sizes_of}
 
 sizes_from-push : (at : ℕ) (items : List Item) (item : Item)
@@ -61,3 +61,28 @@ sizes_are items are =
       few = omega (arith, are.few, length-sizes_of items);
       small = sizes_from_small 0 items are.each;
     }
+
+-- ---- no other list has them
+only_from : (at : ℕ) (items : List Item) (sizes : List ℕ) → length sizes ≡ length items
+    → ((i : ℕ) (item : Item) → slice_get items i ≡ Some item → get_or sizes i 0 ≡ size_at (at + sum (take i sizes)) item) → sizes ≡ sizes_from at items
+only_from at [] [] same each = refl
+only_from at [] (size ∷ sizes) same each = absurd (omega (arith, same))
+only_from at (item ∷ items) [] same each = absurd (omega (arith, same))
+only_from at (item ∷ items) (size ∷ sizes) same each =
+    let here : at + 0 ≡ at = omega arith in
+    let is : size ≡ size_at at item = each 0 item refl ∙ ap (λ n. size_at n item) here in
+    let rest : sizes ≡ sizes_from (at + size_at at item) items =
+    only_from (at + size_at at item) items sizes (omega (arith, same))
+    (λ i later there.
+    (let moved : at + sum (size ∷ take i sizes) ≡ (at + size_at at item) + sum (take i sizes) =
+    omega (arith, is, sum_by-cons (λ x. x) size (take i sizes)) in
+    each (suc i) later there ∙ ap (λ n. size_at n later) moved)) in
+    ap (λ n. n ∷ sizes) is ∙ ap (λ xs. size_at at item ∷ xs) rest
+
+pub only_sizes : (items : List Item) (sizes : List ℕ) → length sizes ≡ length items
+    → ((i : ℕ) (item : Item) → slice_get items i ≡ Some item → slice_index sizes i ≡ size_at (offset_of sizes i) item) → sizes ≡ sizes_of items
+only_sizes items sizes same each =
+    only_from 0 items sizes same
+    (λ i item there.
+    (let here : sum (take i sizes) ≡ 0 + sum (take i sizes) = omega arith in
+    each i item there ∙ ap (λ n. size_at n item) here))

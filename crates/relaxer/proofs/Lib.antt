@@ -4,4 +4,5 @@ pub mod Rounds
 pub mod Changes
 pub mod Built
 pub mod Untouched
+pub mod Nearby
 mod Examples

@@ -32,12 +32,16 @@ short_of_next : (sizes : List ℕ) (i : ℕ) (before : Option Item) (size near t
 short_of_next sizes i None size near target is = cc
 short_of_next sizes i (Some item) size near target is = let same : grown sizes i item ≡ Short size near target = cc in short_before sizes i item size near target same
 
+pub short_after : (items : List Item) (i size near target : ℕ) → slice_get (next_round items) i ≡ Some (Short size near target)
+    → is_in_reach (displacement (sizes_of items) i target) ≡ true
+short_after items i size near target is = short_of_next (sizes_of items) i (slice_get items i) size near target (sym (entry_of_next items i) ∙ is)
+
 pub untouched_jumps_fit : (items : List Item) (i size near target : ℕ) → slice_get (next_round items) i ≡ Some (Short size near target)
     → ((k : ℕ) → Spans i target k → slice_index (sizes_of (next_round items)) k ≡ slice_index (sizes_of items) k)
     → IsTrue (is_in_reach (displacement (sizes_of (next_round items)) i target))
 untouched_jumps_fit items i size near target is same =
     ap is_in_reach (displacements_stay (sizes_of (next_round items)) (sizes_of items) i target same)
-    ∙ short_of_next (sizes_of items) i (slice_get items i) size near target (sym (entry_of_next items i) ∙ is)
+    ∙ short_after items i size near target is
 
 -- ---- behind an entry whose offset stays, and with no jump that grows from there on, all stays
 size_behind : (items : List Item) (k : ℕ) → offset_of (sizes_of (next_round items)) k ≡ offset_of (sizes_of items) k

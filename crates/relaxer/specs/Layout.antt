@@ -95,3 +95,8 @@ KeepsSize items i (Fixed size) = ⊤
 KeepsSize items i (Short size near target) = IsTrue (is_in_reach (displacement (sizes_of items) i target))
 KeepsSize items i (Near size target) = ⊤
 KeepsSize items i (Align power max) = offset_of (sizes_of (next_round items)) i % 2 ^ power ≡ offset_of (sizes_of items) i % 2 ^ power
+
+-- entry k stands so near to the end of the jump at entry i that a short jump can span it
+pub record IsNearby (sizes : List ℕ) (i k : ℕ) : Type 0 where
+  pub ahead : offset_of sizes k ≤ offset_of sizes (i + 1) + 127
+  pub back : offset_of sizes (i + 1) ≤ offset_of sizes k + 128

@@ -3,7 +3,7 @@
 ghost use Rattle.std.specs.Prelude.{◌≡◌, ◌<◌, ◌≤◌, ◌+ℤ◌, ℕ, pos, List, Some, length, option_map, slice_get, slice_index, slice_set, IsTrue};
 ghost use Rattle.relaxer.specs.declared.item.Item.{Item};
 ghost use Rattle.relaxer.specs.declared.item.Item.TheVariants.{Short};
-ghost use Rattle.relaxer.specs.Layout.{size_at, sizes_of, offset_of, displacement, is_in_reach, fits, AllFit, grown, next_round, IsLayout, short_count, Spans, KeepsSize};
+ghost use Rattle.relaxer.specs.Layout.{size_at, sizes_of, offset_of, displacement, is_in_reach, fits, AllFit, grown, next_round, IsLayout, short_count, Spans, KeepsSize, IsNearby};
 
 /// Rounds end: a round that isn't the last makes a jump near, so there are at most as many rounds as short jumps, and one more. There
 /// is one layout, and a round after it would change nothing.
@@ -14,12 +14,15 @@ pub fn rounds_end()
     ensures last { (items : List Item) → AllFit items → next_round items ≡ items }
 {}
 
-/// Each entry has its size at its offset, the sum of the sizes before it. A round keeps the number of entries, and makes of each what
+/// Each entry has its size at its offset, the sum of the sizes before it, and no other list of sizes has this. A round keeps the number of entries, and makes of each what
 /// grows of it by the offsets of the round before.
 pub fn entries_have_their_sizes()
     ensures sizes { (items : List Item) (i : ℕ) (item : Item) → slice_get items i ≡ Some item
         → slice_index (sizes_of items) i ≡ size_at (offset_of (sizes_of items) i) item }
     ensures all { (items : List Item) → length (sizes_of items) ≡ length items }
+    ensures only { (items : List Item) (sizes : List ℕ) → length sizes ≡ length items
+        → ((i : ℕ) (item : Item) → slice_get items i ≡ Some item → slice_index sizes i ≡ size_at (offset_of sizes i) item)
+        → sizes ≡ sizes_of items }
     ensures next { (items : List Item) (i : ℕ) → slice_get (next_round items) i ≡ option_map (grown (sizes_of items) i) (slice_get items i) }
 {}
 
@@ -37,7 +40,7 @@ pub fn displacements_are_of_spans()
 /// What a round may change. `sizes`: the size of an entry stays, but for a short jump that doesn't reach its target, and an alignment whose
 /// offset moves by no multiple of its power of 2. `behind`: from an entry on whose offset stays, with no jump that grows there or later,
 /// all sizes stay. `jumps`: a jump that is still short and spans no entry whose size has changed reaches its target, so only jumps that
-/// span a changed entry are to be tested again.
+/// span a changed entry are to be tested again. `nearby`: these end at most 128 bytes from it, in the offsets of the round before.
 pub fn rounds_change_little()
     ensures sizes { (items : List Item) (i : ℕ) (item : Item) → slice_get items i ≡ Some item → KeepsSize items i item
         → slice_index (sizes_of (next_round items)) i ≡ slice_index (sizes_of items) i }
@@ -46,5 +49,8 @@ pub fn rounds_change_little()
         → (i : ℕ) → k ≤ i → slice_index (sizes_of (next_round items)) i ≡ slice_index (sizes_of items) i }
     ensures jumps { (items : List Item) (i size near target : ℕ) → slice_get (next_round items) i ≡ Some (Short size near target)
         → ((k : ℕ) → Spans i target k → slice_index (sizes_of (next_round items)) k ≡ slice_index (sizes_of items) k)
+        → IsTrue (is_in_reach (displacement (sizes_of (next_round items)) i target)) }
+    ensures nearby { (items : List Item) (i size near target : ℕ) → slice_get (next_round items) i ≡ Some (Short size near target)
+        → ((k : ℕ) → IsNearby (sizes_of items) i k → slice_index (sizes_of (next_round items)) k ≡ slice_index (sizes_of items) k)
         → IsTrue (is_in_reach (displacement (sizes_of (next_round items)) i target)) }
 {}
