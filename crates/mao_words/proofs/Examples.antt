@@ -1,8 +1,12 @@
 -- Words that are taken, and words that aren't.
 use Rattle.std.proofs.Common.{◌≡◌, refl, [], ◌∷◌, true, false, codes}
-use Rattle.clap.specs.Words.{takes}
+use Rattle.std.specs.Prelude.{Some}
+use Rattle.clap.specs.Words.{takes, fault_of}
+use Rattle.clap.specs.declared.error.kind.ErrorKind.{ErrorKind}
+use Rattle.pass_script.specs.declared.script.ScriptFault.{ScriptFault}
 use Rattle.clap.proofs.OnLiterals.{clap_on_literals}
-use Rattle.mao_words.specs.Command.{mao_app, script_of_words, asks_for_journal}
+use Rattle.mao_words.specs.Command.{mao_app, AreFaultless, script_of_words, asks_for_journal}
+use Rattle.mao_words.specs.Refused.{script_fault}
 
 taken : takes mao_app (codes "mao" ∷ codes "--mao=NOPKILL" ∷ codes "--journal" ∷ []) ≡ true
 unfolding clap_on_literals
@@ -55,3 +59,15 @@ unknown = refl
 a_file : takes mao_app (codes "mao" ∷ codes "file.s" ∷ []) ≡ false
 unfolding clap_on_literals
 a_file = refl
+
+faultless : AreFaultless (codes "mao" ∷ codes "--mao=FOO" ∷ codes "--journal" ∷ [])
+unfolding clap_on_literals
+faultless = refl
+
+help_is_a_fault : fault_of mao_app (codes "mao" ∷ codes "--help" ∷ []) ≡ ErrorKind.DisplayHelp ∷ []
+unfolding clap_on_literals
+help_is_a_fault = refl
+
+a_script_with_a_fault : script_fault (codes "mao" ∷ codes "--mao=NOPIN=density[101]" ∷ []) ≡ Some (ScriptFault.BadNumber 14)
+unfolding clap_on_literals
+a_script_with_a_fault = refl

@@ -1,11 +1,11 @@
 -- Why words are refused, and the line that says so.
-use Rattle.std.specs.Prelude.{ℕ, ◌≡◌, ◌≢◌, ◌⊎◌, ◌++◌, ⊤, List, [], Option, Some, true, codes, decimal}
+use Rattle.std.specs.Prelude.{ℕ, ◌≡◌, ◌≢◌, ◌⊎◌, ◌++◌, ⊤, List, Option, Some, true, codes, decimal}
 use Rattle.clap.specs.Words.{Text, takes}
 use Rattle.pass_script.specs.declared.script.ScriptFault.{ScriptFault}
 use Rattle.pass_script.specs.Script.{fault_of}
 use Rattle.mao_words.specs.declared.words.WordsFault.{WordsFault}
 use Rattle.mao_words.specs.declared.asked.Refusal.{Refusal}
-use Rattle.mao_words.specs.Command.{mao_app, script_of_words}
+use Rattle.mao_words.specs.Command.{mao_app, AreFaultless, script_of_words}
 
 -- the fault of the script that words give
 abbrev pub script_fault : List Text → Option ScriptFault
@@ -26,10 +26,10 @@ refusal_line Refusal.Words = codes "mao: usage\n"
 refusal_line (Refusal.Script fault) = script_line fault
 refusal_line Refusal.NoMemory = codes "mao: out of memory\n"
 
--- the cause of a refusal; memory may want anywhere
+-- The cause of a refusal: words that the command doesn't take, or the script's fault where it takes them. Memory may want anywhere.
 abbrev pub IsCaused : List Text → Refusal → Type 0
 IsCaused words Refusal.Words = takes mao_app words ≢ true
-IsCaused words (Refusal.Script fault) = script_fault words ≡ Some fault
+IsCaused words (Refusal.Script fault) = AreFaultless words × (script_fault words ≡ Some fault)
 IsCaused words Refusal.NoMemory = ⊤
 
 -- words are refused that the command doesn't take, or that give a script with a fault, and the line says which

@@ -1,10 +1,10 @@
 // The words and their script, read in one call.
 
-ghost use Rattle.std.specs.Prelude.{◌≡◌, ◌≤◌, None, map, length, All, IfOk, IfErr, OnOk};
+ghost use Rattle.std.specs.Prelude.{◌≡◌, ◌≢◌, ◌≤◌, None, map, length, All, IfOk, IfErr, OnOk};
 ghost use Rattle.pass_script.specs.Catalogue.{AreInRange};
 ghost use Rattle.pass_script.specs.Script.{steps_of};
 ghost use Rattle.mao_words.specs.Command.{AreFaultless, script_of_words, asks_for_journal};
-ghost use Rattle.mao_words.specs.Refused.{IsCaused, script_fault};
+ghost use Rattle.mao_words.specs.Refused.{IsCaused, IsUsageLine, refusal_line, script_fault};
 
 use crate::words::{WordsFault, read_words};
 use pass_script::{ScriptFault, StepList, read_script};
@@ -61,7 +61,8 @@ impl From<ScriptFault> for Refusal {
 }
 
 /// Reads the words of the command `mao`, the first of which is the program's name, and then the script that they give.
-/// `Words` comes only where the command doesn't take them, and `Script` only with the fault of the script.
+/// `Words` comes only where the command doesn't take them, and `Script` only where it does, with the fault of the script.
+/// `refusal_line` gives the line that tells a refusal.
 pub fn read_asked(alloc: Global, words: &[&str]) -> Result<Asked, Refusal>
     ensures faultless { OnOk result (AreFaultless (map (λ w. w.now) words.now)) }
     ensures steps { IfOk result (λ a. a.steps ≡ steps_of (script_of_words (map (λ w. w.now) words.now))) }
@@ -70,6 +71,7 @@ pub fn read_asked(alloc: Global, words: &[&str]) -> Result<Asked, Refusal>
     ensures few { IfOk result (λ a. length a.steps ≤ 32) }
     ensures in_range { IfOk result (λ a. All (λ step. AreInRange step.opts) a.steps) }
     ensures refused { IfErr result (λ e. IsCaused (map (λ w. w.now) words.now) e) }
+    ensures told { IfErr result (λ e. e ≢ Refusal.NoMemory → IsUsageLine (map (λ w. w.now) words.now) (refusal_line e)) }
 {
     let chosen = read_words(alloc, words)?;
     let script = read_script(alloc, chosen.script)?;
