@@ -1,0 +1,4 @@
+pub mod Bits
+pub mod Handed
+pub mod Steps
+pub mod Between
