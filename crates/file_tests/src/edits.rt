@@ -12,6 +12,7 @@ use std::test::Fail;
 // The label of `f` is 3, its `nop` 4, its `ret` 5 and its `.size` 6.
 const SHORT: &[u8] = b".text\n.type f,@function\nf: nop\n\tret\n.size f,.-f\n";
 
+#[tactic(auto, using(crate::proofs::Nop::nop_is))]
 fn nop() -> Insn
     ensures { IsInstruction result }
 {
