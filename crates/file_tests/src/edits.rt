@@ -115,6 +115,7 @@ fn an_instruction_that_is_put_stands_where_the_old_one_stood(rt: HostRuntime) ->
         ],
     );
     assert_eq!(rt; unit.last_serial(), 6);
+    assert!(rt; unit.functions() == 1);
     assert_eq!(rt; unit.next_code(0, 4), Some(5));
     Ok(())
 }
@@ -137,9 +138,9 @@ fn a_nop_comes_directly_before_its_place(rt: HostRuntime) -> Result<(), Fail> {
         ],
     );
     assert_eq!(rt; unit.last_serial(), 7);
+    assert!(rt; unit.functions() == 1);
     assert_eq!(rt; unit.next_code(0, 4), Some(7));
     assert_eq!(rt; unit.next_code(0, 7), Some(5));
-    assert!(rt; unit.functions() == 1);
     assert_eq!(rt; unit.label(0), 3);
     Ok(())
 }
