@@ -184,7 +184,7 @@ fn writes_jumps(rt: HostRuntime) -> Result<(), Fail> {
 
 #[test]
 #[tactic(auto, unfolding(att_lexer::specs::Bytes::is_symbol_start, att_lexer::specs::Bytes::is_symbol_byte, att_lexer::specs::Bytes::is_letter, att_lexer::specs::Bytes::is_digit))]
-fn writes_symbols(rt: HostRuntime) -> Result<(), Fail> {
+fn writes_jumps_to_symbols(rt: HostRuntime) -> Result<(), Fail> {
     let jb = one(
         Op::Jcc(Cond::B),
         Width::Q,
@@ -197,6 +197,12 @@ fn writes_symbols(rt: HostRuntime) -> Result<(), Fail> {
         Arg::Code(symbol(rt.alloc(), b"g", false, 0)?),
     );
     is_written(&rt, &call, "call g")?;
+    Ok(())
+}
+
+#[test]
+#[tactic(auto, unfolding(att_lexer::specs::Bytes::is_symbol_start, att_lexer::specs::Bytes::is_symbol_byte, att_lexer::specs::Bytes::is_letter, att_lexer::specs::Bytes::is_digit))]
+fn writes_operands_with_symbols(rt: HostRuntime) -> Result<(), Fail> {
     let local = Arg::Mem(Mem {
         fs: true,
         disp: Disp::Sym(symbol(rt.alloc(), b"x", true, -4)?),
