@@ -53,36 +53,6 @@ fn insert_nop(
     }
 }
 
-fn insert_align(
-    rt: &(impl Abort + AllocGlobal),
-    unit: &mut AsmUnit,
-    before: u32,
-    power: u8,
-) -> Result<u32, Fail> {
-    assert!(rt; power <= 12);
-    assert!(rt; unit.last_serial() < u32::MAX);
-    if unit.entry(before).is_some() && unit.is_in_clear_code(before) {
-        Ok(unit.insert_align(before, power)?)
-    } else {
-        panic!(rt; "no entry of a clear function")
-    }
-}
-
-fn drop_insn(rt: &(impl Abort + AllocGlobal), unit: &mut AsmUnit, serial: u32) {
-    if let Some(
-        Entry {
-            kind: EntryKind::Insn(_),
-            ..
-        },
-    ) = unit.entry(serial)
-        && unit.is_in_clear_code(serial)
-    {
-        unit.drop_entry(serial);
-    } else {
-        panic!(rt; "no instruction of a clear function");
-    }
-}
-
 // The serials in order, forwards and backwards, and which entries are kept text.
 fn check_order(rt: &(impl Abort + AllocGlobal), unit: &AsmUnit, wanted: &[(u32, bool)]) {
     let mut at = unit.first();
@@ -142,63 +112,5 @@ fn a_nop_comes_directly_before_its_place(rt: HostRuntime) -> Result<(), Fail> {
     assert_eq!(rt; unit.next_code(0, 4), Some(7));
     assert_eq!(rt; unit.next_code(0, 7), Some(5));
     assert_eq!(rt; unit.label(0), 3);
-    Ok(())
-}
-
-#[test]
-fn an_alignment_before_the_label_is_of_its_lead(rt: HostRuntime) -> Result<(), Fail> {
-    let mut unit = unit_by_class(&rt, SHORT)?;
-    assert_eq!(rt; insert_align(&rt, &mut unit, 3, 4)?, 7);
-    assert!(rt; unit.functions() == 1);
-    assert_eq!(rt; unit.base_power(0), 4);
-    assert_eq!(rt; insert_align(&rt, &mut unit, 5, 5)?, 8);
-    assert!(rt; unit.functions() == 1);
-    assert_eq!(rt; unit.base_power(0), 4);
-    assert_eq!(rt; insert_nop(&rt, &mut unit, 3)?, 9);
-    assert!(rt; unit.functions() == 1);
-    assert_eq!(rt; unit.base_power(0), 0);
-    check_order(
-        &rt,
-        &unit,
-        &[
-            (1, true),
-            (2, true),
-            (7, false),
-            (9, false),
-            (3, true),
-            (4, true),
-            (8, false),
-            (5, true),
-            (6, true),
-        ],
-    );
-    assert_eq!(rt; unit.next_code(0, 4), Some(8));
-    Ok(())
-}
-
-#[test]
-fn a_thousand_nops_come_and_go(rt: HostRuntime) -> Result<(), Fail> {
-    let mut unit = unit_by_class(&rt, SHORT)?;
-    for _ in 0..1000 {
-        let _serial = insert_nop(&rt, &mut unit, 5)?;
-    }
-    assert_eq!(rt; unit.last_serial(), 1006);
-    assert_eq!(rt; unit.prev(5), Some(1006));
-    assert_eq!(rt; unit.next(4), Some(7));
-    for serial in 7..1007 {
-        drop_insn(&rt, &mut unit, serial);
-    }
-    check_order(
-        &rt,
-        &unit,
-        &[
-            (1, true),
-            (2, true),
-            (3, true),
-            (4, true),
-            (5, true),
-            (6, true),
-        ],
-    );
     Ok(())
 }
