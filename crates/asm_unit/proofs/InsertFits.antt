@@ -45,7 +45,7 @@ entries_inserted b n k (x ∷ hs) = by_test (serial_is b x) (entries_inserted b 
     by_test true e = refl
     by_test false e = ap (λ xs. x.entry ∷ xs) e
 
-lacks_entries : (n : ℕ) (hs : List Held) → holds_serial n hs ≡ false → Lacks n (entries_of hs)
+pub lacks_entries : (n : ℕ) (hs : List Held) → holds_serial n hs ≡ false → Lacks n (entries_of hs)
 lacks_entries n [] e = tt
 lacks_entries n (x ∷ hs) e = let w = or_parts (serial_is n x) (holds_serial n hs) e in (w.0, lacks_entries n hs w.1)
 

@@ -1,18 +1,22 @@
 use Rattle.std.proofs.Common.{◌≡◌, ◌∙◌, ◌++◌, ◌∷◌, ◌-◌, ℕ, suc, List, [], Option, ap, sym, subst, true, map, arith}
-use Rattle.std.specs.Prelude.{slice_index_or}
+use Rattle.std.specs.Prelude.{slice_get, slice_index_or}
 use Rattle.jump_tables.specs.Sections.{placed}
 use Rattle.asm_unit.specs.declared.cause.FreezeCause.{FreezeCause}
-use Rattle.asm_unit.specs.Decisions.{Decision}
+use Rattle.asm_unit.specs.Decisions.{Decision, codes}
+use Rattle.asm_unit.specs.Edits.{SameEach}
+use Rattle.asm_unit.specs.UnitCodes.{codes_of}
+use Rattle.asm_unit.proofs.EditCodes.{nop_inserted, align_inserted}
 use Rattle.asm_unit.specs.DefinedNames.{Keeps}
 use Rattle.asm_unit.specs.Functions.{functions}
 use Rattle.asm_unit.specs.Grown.{part_with}
-use Rattle.asm_unit.specs.Held.{Held, entries_of, new_held, held_inserted}
+use Rattle.asm_unit.specs.Held.{Held, holds_serial, entries_of, new_held, held_inserted}
 use Rattle.asm_unit.specs.Unit.{Unit, functions_of, in_clear_code, placed_new}
 use Rattle.asm_unit.specs.UnitFields.{decided_from, lead_power, leads_with, owner_at, owner_between}
 use Rattle.asm_unit.proofs.InsertFits.{keeps_inserted, functions_grown, clear_inserted}
 use Rattle.asm_unit.proofs.InsertLaws.{decided_same}
+use Rattle.asm_unit.proofs.OtherCodes.{others_inserted}
 use Rattle.asm_unit.proofs.StandLaws.{clear_there}
-use Rattle.asm_unit.proofs.UnitLaws.{holds_there}
+use Rattle.asm_unit.proofs.UnitLaws.{holds_there, removable_quiet}
 use Rattle.asm_unit.proofs.unit.AsmUnit.insert.Goals as goal
 
 pub insert_before-requires-clause-there : goal.insert_before-requires-clause-there
@@ -94,3 +98,57 @@ returns-clause-codes c = λ other d.
     (ap (λ ds. decided_from 0 ds ts us) c.lead_on.ensures ∙ decided_same c.owner_of-owner.result b c.lead_power-power.result 0 kept ts us)
     ∙ clear_inserted hs u.held.last kept u.owners.items ts us u.names b k c.self.invariant clear c.requires.kind n next c.in_ok-serial.ensures.fresh (decided_from 0 kept ts us) other d
     ∙ ap (λ v. in_clear_code v.decided (functions_of v) other) c.self.view_is
+
+pub returns-clause-fresh : goal.returns-clause-fresh
+returns-clause-fresh c = ap (λ v. holds_serial c.in_ok-serial.serial v.held) (sym c.self.view_is) ∙ c.in_ok-serial.ensures.fresh
+
+pub returns-clause-nop : goal.returns-clause-nop
+returns-clause-nop c = λ nop.
+    let u = c.self.inside in
+    let hs = u.held.held in
+    let kept = u.functions.items in
+    let b = c.args.before in
+    let k = c.args.kind in
+    let n = c.in_ok-serial.serial in
+    let ts = u.tables in
+    let us = u.table_owners.items in
+    let ds = decided_from 0 kept ts us in
+    let after =
+    ap (λ l. codes (decided_from 0 c.lead_on.new.functions.items ts us) (entries_of l.held)) c.in_ok-serial.ensures.held
+    ∙ ap (λ xs. codes xs (entries_of (held_inserted b (new_held n k) hs)))
+    (ap (λ xs. decided_from 0 xs ts us) c.lead_on.ensures ∙ decided_same c.owner_of-owner.result b c.lead_power-power.result 0 kept ts us)
+    in
+    subst (λ cs. SameEach (codes_of c.args.self.now) cs) (sym after)
+    (subst (λ cs. SameEach cs (codes ds (entries_of (held_inserted b (new_held n k) hs)))) (ap codes_of c.self.view_is) (nop_inserted ds hs b n k c.in_ok-serial.ensures.fresh nop))
+
+pub returns-clause-alignment : goal.returns-clause-alignment
+returns-clause-alignment c = λ align.
+    let u = c.self.inside in
+    let hs = u.held.held in
+    let kept = u.functions.items in
+    let b = c.args.before in
+    let k = c.args.kind in
+    let n = c.in_ok-serial.serial in
+    let ts = u.tables in
+    let us = u.table_owners.items in
+    ap (λ l. codes (decided_from 0 c.lead_on.new.functions.items ts us) (entries_of l.held)) c.in_ok-serial.ensures.held
+    ∙ ap (λ xs. codes xs (entries_of (held_inserted b (new_held n k) hs)))
+    (ap (λ xs. decided_from 0 xs ts us) c.lead_on.ensures ∙ decided_same c.owner_of-owner.result b c.lead_power-power.result 0 kept ts us)
+    ∙ align_inserted (decided_from 0 kept ts us) hs b n k c.in_ok-serial.ensures.fresh align
+    ∙ ap codes_of c.self.view_is
+
+pub returns-clause-rest : goal.returns-clause-rest
+returns-clause-rest c = λ i f code stands other apart.
+    let u = c.self.inside in
+    let hs = u.held.held in
+    let kept = u.functions.items in
+    let b = c.args.before in
+    let k = c.args.kind in
+    let n = c.in_ok-serial.serial in
+    let ts = u.tables in
+    let us = u.table_owners.items in
+    ap (λ l. slice_get (codes (decided_from 0 c.lead_on.new.functions.items ts us) (entries_of l.held)) other) c.in_ok-serial.ensures.held
+    ∙ ap (λ xs. slice_get (codes xs (entries_of (held_inserted b (new_held n k) hs))) other)
+    (ap (λ xs. decided_from 0 xs ts us) c.lead_on.ensures ∙ decided_same c.owner_of-owner.result b c.lead_power-power.result 0 kept ts us)
+    ∙ others_inserted (decided_from 0 kept ts us) hs b n k c.self.invariant.fits.unique (removable_quiet k c.requires.kind) c.in_ok-serial.ensures.fresh i f (ap (λ v. slice_get (functions_of v) i) c.self.view_is ∙ stands.function) stands.among other apart
+    ∙ ap (λ v. slice_get (codes_of v) other) c.self.view_is
