@@ -1,5 +1,5 @@
 -- The text of a unit.
-use Rattle.std.specs.Prelude.{ℕ, ◌+◌, ◌≤◌, List, [], ◌∷◌, ◌++◌, take, drop, length, Option, Some, None, ⊤}
+use Rattle.std.specs.Prelude.{ℕ, ◌+◌, ◌≤◌, List, [], take, drop, length, Option, Some, None}
 use Rattle.std.specs.List.{flat_map, AllByRecursion}
 use Rattle.att_lexer.specs.declared.pieces.Span.{Span}
 use Rattle.insn_ir.specs.declared.entry.DirectiveKind.{DirectiveKind}

@@ -6,16 +6,18 @@ ghost use Rattle.std.specs.Io.KnownBytes.{Appends};
 ghost use Rattle.mao_outside.specs.Causes.{HasCause};
 ghost use Rattle.att_grammar.specs.Canonical.{line_of};
 ghost use Rattle.att_grammar.specs.Entries.{IsOfProfile};
+ghost use Rattle.entry_list.specs.Listed.{values_of};
 ghost use Rattle.asm_writer.specs.Fragments.{fragments_text};
 ghost use Rattle.asm_writer.specs.Unit.{new_text, entry_text, unit_text, IsWritable, AreWritable};
-ghost use Rattle.asm_writer.specs.Runs.{IsRun, run_text, text_at, Passes, waits};
+ghost use Rattle.asm_writer.specs.Runs.{IsRun, run_text, Passes, waits};
 
 use crate::fragment::Fragment;
 use crate::line::{align_fragments, insn_fragments};
 use crate::sink::put_fragments;
 use arrayvec::ArrayVec;
-use asm_unit::AsmUnit;
+use asm_unit::{AsmUnit, Held};
 use att_lexer::Span;
+use entry_list::EntryList;
 use insn_ir::{DirectiveKind, EntryKind};
 use mao_outside::{Failed, Sink, put_all};
 
@@ -140,30 +142,6 @@ fn pass<K: Sink>(
     Ok(Run { from: start, to })
 }
 
-// The entry of a serial more.
-fn pass_entry<K: Sink>(
-    sink: &mut K,
-    gathered: &mut Gathered,
-    text: &[u8],
-    run: Run,
-    unit: &AsmUnit,
-    serial: u32,
-) -> Result<Run, Failed>
-    requires run { IsRun text.now run }
-    requires writable { AreWritable text.now unit.now.held }
-    ensures run { IfOk result (IsRun text.now) }
-    ensures all { IfOk result (λ next. Passes (K.taken sink.old) (K.taken sink.new) (waits gathered.old.items text.now run ++ text_at text.now unit.now.held serial) (waits gathered.new.items text.now next)) }
-    ensures part { OnErr result ((n : ℕ) × (n < length (waits gathered.old.items text.now run ++ text_at text.now unit.now.held serial))
-        × Appends (K.taken sink.old) (K.taken sink.new) (take n (waits gathered.old.items text.now run ++ text_at text.now unit.now.held serial))) }
-    ensures idle { length (waits gathered.old.items text.now run ++ text_at text.now unit.now.held serial) ≡ 0 → sink.new ≡ sink.old }
-    ensures cause { HasCause (K.faults sink.old) (K.faults sink.new) result }
-{
-    match unit.entry(serial) {
-        Some(entry) => pass(sink, gathered, text, run, &entry.kind, unit.span(serial)),
-        None => Ok(run),
-    }
-}
-
 // The run and what is gathered, put at the end.
 fn put_rest<K: Sink>(
     sink: &mut K,
@@ -183,6 +161,29 @@ fn put_rest<K: Sink>(
     Ok(())
 }
 
+// The text of the entries of a list. Each node is visited once.
+fn write_list<K: Sink>(list: &EntryList<Held>, text: &[u8], sink: &mut K) -> Result<(), Failed>
+    requires writable { AreWritable text.now (values_of list.now.pairs) }
+    ensures all { OnOk result (Appends (K.taken sink.old) (K.taken sink.new) (unit_text text.now (values_of list.now.pairs))) }
+    ensures part { OnErr result ((n : ℕ) × (n < length (unit_text text.now (values_of list.now.pairs)))
+        × Appends (K.taken sink.old) (K.taken sink.new) (take n (unit_text text.now (values_of list.now.pairs)))) }
+    ensures idle { length (unit_text text.now (values_of list.now.pairs)) ≡ 0 → sink.new ≡ sink.old }
+    ensures cause { HasCause (K.faults sink.old) (K.faults sink.new) result }
+{
+    let nodes = list.nodes();
+    let mut gathered = Gathered::new();
+    let mut run = Run { from: 0, to: 0 };
+    let mut at = list.first();
+    while let Some(key) = at {
+        let node = &nodes[key];
+        let held = &node.value;
+        run = pass(sink, &mut gathered, text, run, &held.entry.kind, held.span)?;
+        at = node.next;
+    }
+    put_rest(sink, &mut gathered, text, run)?;
+    Ok(())
+}
+
 /// Puts the text of a unit into the sink. `text` is what the unit was read from: kept pieces stand as they did there,
 /// and an entry that has no piece is a tab, its canonical text and a newline.
 ///
@@ -196,13 +197,5 @@ pub fn write_unit<K: Sink>(unit: &AsmUnit, text: &[u8], sink: &mut K) -> Result<
     ensures idle { length (unit_text text.now unit.now.held) ≡ 0 → sink.new ≡ sink.old }
     ensures cause { HasCause (K.faults sink.old) (K.faults sink.new) result }
 {
-    let mut gathered = Gathered::new();
-    let mut run = Run { from: 0, to: 0 };
-    let mut at = unit.first();
-    while let Some(serial) = at {
-        run = pass_entry(sink, &mut gathered, text, run, unit, serial)?;
-        at = unit.next(serial);
-    }
-    put_rest(sink, &mut gathered, text, run)?;
-    Ok(())
+    write_list(unit.list(), text, sink)
 }
