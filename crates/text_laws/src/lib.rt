@@ -1,0 +1,4 @@
+//! Laws of the text of a unit that was edited.
+#![tactic(auto)]
+
+pub mod laws;
