@@ -2,9 +2,9 @@
 use Rattle.std.proofs.Common.{◌≡◌, ◌<◌, ℕ, List, [], ◌∷◌, ◌++◌, length, slice_set, suc, zero, ap, refl, slice_index_or, ◌∙◌, sym, arith}
 use Rattle.std.specs.Prelude.{slice_get, Some, Result, Ok, Err, OnOk}
 use Rattle.std.proofs.lemmas.Grind.{common_steps}
-use Rattle.pass_base.specs.declared.edit.Edit.{Edit}
-use Rattle.pass_base.specs.declared.journal.Part.{Part}
-use Rattle.pass_base.specs.Journal.{onto_last}
+use Rattle.unit_edits.specs.declared.edit.Edit.{Edit}
+use Rattle.unit_edits.specs.declared.journal.Part.{Part}
+use Rattle.unit_edits.specs.Journal.{onto_last}
 
 pub onto_last_at : (es : List Edit) (ps : List Part) (n : ℕ) (p : Part) → length ps ≡ suc n → slice_get ps n ≡ Some p
     → slice_set ps n (record p { edits = p.edits ++ es }) ≡ onto_last es ps

@@ -1,7 +1,7 @@
 // The journal: what each step of a script did to each function.
 
 ghost use Rattle.std.specs.Prelude.{◌≡◌, ◌<◌, [], ◌∷◌, ◌++◌, length, OnOk, OnErr};
-ghost use Rattle.pass_base.specs.Journal.{onto_last};
+ghost use Rattle.unit_edits.specs.Journal.{onto_last};
 
 use crate::edit::{Edit, EditList};
 use std::alloc::{AllocError, Global};
@@ -23,7 +23,7 @@ pub struct PartList {
 
 impl Model for PartList {
     ghost use Rattle.std.specs.Prelude.{List};
-    ghost use Rattle.pass_base.specs.declared.journal.Part.{Part};
+    ghost use Rattle.unit_edits.specs.declared.journal.Part.{Part};
 
     ghost Value = { List Part };
 
@@ -76,7 +76,7 @@ pub struct Journal {
 
 impl Model for Journal {
     ghost use Rattle.std.specs.Prelude.{List};
-    ghost use Rattle.pass_base.specs.declared.journal.Part.{Part};
+    ghost use Rattle.unit_edits.specs.declared.journal.Part.{Part};
 
     ghost Value = { List Part };
 

@@ -1,7 +1,7 @@
 -- Journals as lists of parts.
 use Rattle.std.specs.Prelude.{List, [], ◌∷◌, ◌++◌}
-use Rattle.pass_base.specs.declared.edit.Edit.{Edit}
-use Rattle.pass_base.specs.declared.journal.Part.{Part}
+use Rattle.unit_edits.specs.declared.edit.Edit.{Edit}
+use Rattle.unit_edits.specs.declared.journal.Part.{Part}
 
 -- a journal whose last part has more edits
 abbrev pub onto_last : List Edit → List Part → List Part

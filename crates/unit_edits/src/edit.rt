@@ -46,7 +46,7 @@ pub struct EditList {
 
 impl Model for EditList {
     ghost use Rattle.std.specs.Prelude.{List};
-    ghost use Rattle.pass_base.specs.declared.edit.Edit.{Edit};
+    ghost use Rattle.unit_edits.specs.declared.edit.Edit.{Edit};
 
     ghost Value = { List Edit };
 

@@ -1,8 +1,8 @@
 use Rattle.std.proofs.Common.{◌≡◌, ◌-◌, length, suc, arith, ap, ◌∙◌, ◌++◌, ◌∷◌, [], slice_set}
 use Rattle.std.proofs.lemmas.Grind.{common_steps}
-use Rattle.pass_base.proofs.Last.{on_ok_map, push_onto}
-use Rattle.pass_base.specs.Journal.{onto_last}
-use Rattle.pass_base.proofs.journal.PartList.push_edit.Goals as goal
+use Rattle.unit_edits.proofs.Last.{on_ok_map, push_onto}
+use Rattle.unit_edits.specs.Journal.{onto_last}
+use Rattle.unit_edits.proofs.journal.PartList.push_edit.Goals as goal
 
 pub returns-clause-ok : goal.returns-clause-ok
 returns-clause-ok c =

@@ -1,0 +1,4 @@
+pub mod Journal
+pub mod Replay
+pub mod Bodies
+pub mod Proper
