@@ -1,0 +1,7 @@
+pub mod Sound
+pub mod Steps
+pub mod OtherFunctions
+pub mod Names
+pub mod Rooms
+pub mod Padding
+pub mod Runs

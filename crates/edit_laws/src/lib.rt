@@ -1,0 +1,4 @@
+//! Laws of edits within a function of a unit.
+#![tactic(auto)]
+
+pub mod laws;
