@@ -9,8 +9,8 @@ use Rattle.std.proofs.lemmas.List.Sums.{sum_by-cons}
 use Rattle.relaxer.specs.declared.item.Item.{Item}
 use Rattle.relaxer.specs.declared.item.Item.TheVariants.{Fixed, Short, Near, Align}
 use Rattle.relaxer.specs.Sizes.{IsItem, AreItems, AreSizes}
-use Rattle.relaxer.specs.Layout.{padding_within, size_at, sizes_from, sizes_of, offset_of}
-use Rattle.relaxer.proofs.Changes.{length-sizes_of}
+use Rattle.relaxer.specs.Layout.{padding_within, size_at, sizes_from, sizes_of, offset_of, displacement, is_in_reach, grown, grown_from, next_round}
+use Rattle.relaxer.proofs.Changes.{length-sizes_of, length-next_round}
 
 sizes_from-push : (at : ℕ) (items : List Item) (item : Item)
     → sizes_from at (items ++ item ∷ []) ≡ sizes_from at items ++ size_at (at + sum (sizes_from at items)) item ∷ []
@@ -60,6 +60,27 @@ sizes_are items are =
     record {
       few = omega (arith, are.few, length-sizes_of items);
       small = sizes_from_small 0 items are.each;
+    }
+
+grown_is_item : (sizes : List ℕ) (i : ℕ) (item : Item) → IsItem item → IsItem (grown sizes i item)
+grown_is_item sizes i (Fixed size) is = is
+grown_is_item sizes i (Short size near target) is =
+    cond_both (is_in_reach (displacement sizes i target)) (Short size near target) (Near near target) IsItem (λ e. is) (λ e. is.1)
+grown_is_item sizes i (Near size target) is = is
+grown_is_item sizes i (Align power max) is = is
+
+grown_are_items : (sizes : List ℕ) (i : ℕ) (items : List Item) → All IsItem items → All IsItem (grown_from sizes i items)
+grown_are_items sizes i [] each = All-nil IsItem
+grown_are_items sizes i (item ∷ items) each =
+    All-cons IsItem (grown sizes i item) (grown_from sizes (i + 1) items)
+    (grown_is_item sizes i item (All-head IsItem item items each))
+    (grown_are_items sizes (i + 1) items (All-tail IsItem item items each))
+
+pub next_are_items : (items : List Item) → AreItems items → AreItems (next_round items)
+next_are_items items are =
+    record {
+      few = omega (arith, are.few, length-next_round items);
+      each = grown_are_items (sizes_of items) 0 items are.each;
     }
 
 -- ---- no other list has them

@@ -5,4 +5,6 @@ pub mod Changes
 pub mod Built
 pub mod Untouched
 pub mod Nearby
+pub mod Grown
+pub mod Resized
 mod Examples

@@ -1,11 +1,11 @@
 -- What a short jump can span.
-use Rattle.std.proofs.Common.{◌≡◌, ◌<◌, ◌≤◌, ◌+◌, ◌-◌, ℕ, true, inl, inr, List, take, arith, ap, ◌∙◌, sym}
-use Rattle.std.specs.Prelude.{pos, negsuc, ◌-ℤ◌, ◌⊎◌, Some, sum, slice_get, slice_index, IsTrue}
+use Rattle.std.proofs.Common.{◌≡◌, ◌≤◌, ◌+◌, ◌-◌, ℕ, true, inl, inr, List, take, arith, ap, ◌∙◌, sym}
+use Rattle.std.specs.Prelude.{pos, negsuc, ◌-ℤ◌, Some, sum, slice_get, slice_index, IsTrue}
 use Rattle.std.proofs.lemmas.Bool.{cases_lt, ltb-true}
 use Rattle.std.proofs.lemmas.Int.{ints}
 use Rattle.relaxer.specs.declared.item.Item.{Item}
 use Rattle.relaxer.specs.declared.item.Item.TheVariants.{Short}
-use Rattle.relaxer.specs.Layout.{sizes_of, offset_of, displacement, is_in_reach, next_round, Spans, IsNearby}
+use Rattle.relaxer.specs.Layout.{sizes_of, displacement, is_in_reach, next_round, Spans, IsNearby}
 use Rattle.relaxer.proofs.Fronts.{sum_take_le}
 use Rattle.relaxer.proofs.Untouched.{short_after, untouched_jumps_fit}
 

@@ -5,7 +5,7 @@ use Rattle.std.proofs.lemmas.Bool.{both_ways, and_parts, cases_Bool, false_from_
 use Rattle.std.proofs.lemmas.List.Sums.{sum_by-cons}
 use Rattle.relaxer.specs.declared.item.Item.{Item}
 use Rattle.relaxer.specs.declared.item.Item.TheVariants.{Fixed, Short, Near, Align}
-use Rattle.relaxer.specs.Layout.{sizes_of, displacement, is_in_reach, fits, fit_from, AllFit, grown, grown_from, next_round, round, IsLayout, is_short, short_count}
+use Rattle.relaxer.specs.Layout.{sizes_of, displacement, is_in_reach, fits, fit_from, AllFit, grown, grown_from, next_round, round, IsLayout, HasLayout, is_short, short_count}
 
 weight : Item → ℕ
 weight item = cond (is_short item) 1 0
@@ -119,3 +119,33 @@ layout_by items n unfit fit =
 
 pub layout_at_once : (items : List Item) → AllFit items → IsLayout items 0
 layout_at_once items fit = record { fit = fit; first = λ m below. absurd (omega (arith, below)) }
+
+-- ---- a code as it is after some rounds, of which none is the last
+pub record IsRound (items now : List Item) : Type 0 where
+  pub count : ℕ
+  pub is : now ≡ round count items
+  pub before : (m : ℕ) → m < count → AllFit (round m items) → ⊥
+
+pub first_round : (items : List Item) → IsRound items items
+first_round items = record { count = 0; is = refl; before = λ m below. absurd (omega (arith, below)) }
+
+pub round_after : (items now : List Item) → IsRound items now → (AllFit now → ⊥) → IsRound items (next_round now)
+round_after items now this unfit =
+    record {
+      count = suc this.count;
+      is = ap next_round this.is;
+      before = λ m below fit. elim (cases_order m this.count) [
+        | inl here ↦ unfit (subst AllFit (sym this.is) (subst (λ k. AllFit (round k items)) here fit))
+        | inr (inl earlier) ↦ this.before m earlier fit
+        | inr (inr later) ↦ absurd (omega (arith, below, later))
+      ];
+    }
+
+pub last_round : (items now : List Item) (sizes : List ℕ) → IsRound items now → AllFit now → sizes ≡ sizes_of now → HasLayout items now sizes
+last_round items now sizes this fit offsets =
+    record {
+      rounds = this.count;
+      last = record { fit = subst AllFit this.is fit; first = this.before };
+      entries = this.is;
+      offsets = offsets;
+    }

@@ -75,6 +75,13 @@ pub record IsLayout (items : List Item) (n : ℕ) : Type 0 where
   pub fit : AllFit (round n items)
   pub first : (m : ℕ) → m < n → AllFit (round m items) → ⊥
 
+-- the entries and their sizes as they are in the layout
+pub record HasLayout (items laid : List Item) (sizes : List ℕ) : Type 0 where
+  pub rounds : ℕ
+  pub last : IsLayout items rounds
+  pub entries : laid ≡ round rounds items
+  pub offsets : sizes ≡ sizes_of laid
+
 abbrev pub is_short : Item → Bool
 is_short (Short size near target) = true
 is_short _ = false

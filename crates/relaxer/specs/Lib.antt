@@ -1,3 +1,4 @@
 pub mod Sizes
 pub mod Chunks
 pub mod Layout
+pub mod walks

@@ -1,6 +1,6 @@
 // Sizes whose sums are at hand.
 
-ghost use Rattle.std.specs.Prelude.{◌≡◌, ◌≤◌, ◌<◌, ◌^◌, ℕ, List, IfOk, length, sum, take, slice_set};
+ghost use Rattle.std.specs.Prelude.{◌≡◌, ◌≤◌, ◌<◌, ◌^◌, ℕ, List, IfOk, length, sum, take, slice_index, slice_set};
 ghost use Rattle.relaxer.specs.Sizes.{AreSizes};
 ghost use Rattle.relaxer.specs.Layout.{displacement};
 ghost use Rattle.relaxer.specs.Chunks.{HasSmallChunks, HasSums};
@@ -62,6 +62,21 @@ impl Offsets {
             chunks,
             sizes: Vec::from_slice(alloc, sizes)?,
         })
+    }
+
+    /// How many sizes.
+    pub fn len(&self) -> usize
+        ensures { result ≡ length self.now }
+    {
+        self.sizes.len()
+    }
+
+    /// The size of entry `i`.
+    pub fn size(&self, i: usize) -> u32
+        requires { i < length self.now }
+        ensures { result ≡ slice_index self.now i }
+    {
+        self.sizes[i]
     }
 
     /// The sum of the first `i` sizes: the offset of entry `i`, or of the end.
