@@ -1,0 +1,9 @@
+pub mod Stretches
+pub mod Sites
+pub mod Legal
+pub mod Draws
+pub mod Branches
+pub mod Layouts
+pub mod Aligning
+pub mod Rules
+pub mod Goals
