@@ -1,0 +1,3 @@
+pub mod Alike
+mod Views
+pub mod Steps
