@@ -1,0 +1,8 @@
+mod Examples
+mod Walked
+mod Serials
+mod Places
+mod DropLaws
+mod KillLaws
+mod InsertLaws
+mod PickLaws
