@@ -1,0 +1,6 @@
+mod Counts
+mod Entries
+pub mod Laws
+mod Steps
+mod Undrawn
+mod Weights
