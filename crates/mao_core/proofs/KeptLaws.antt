@@ -1,15 +1,12 @@
--- The pieces of a text by their spans, and serials that ascend.
-use Rattle.std.proofs.Common.{◌≡◌, ℕ, ◌+◌, ◌<◌, ◌≤◌, Bool, true, false, nat_eq, ◌||◌, List, [], ◌∷◌, length, take, drop, map, refl, ap, sym, subst, ◌∙◌, ⊎_elim, slice_index_or, zero, suc, arith, length-append}
-use Rattle.std.proofs.lemmas.Bool.{ne_eqb}
-use Rattle.std.proofs.lemmas.Bool.Decides.{eqb_tells}
+-- The pieces of a text by their spans.
+use Rattle.std.proofs.Common.{◌≡◌, ℕ, ◌+◌, ◌<◌, ◌≤◌, List, [], ◌∷◌, length, take, drop, map, refl, ap, sym, subst, ◌∙◌, slice_index_or, zero, suc, arith, length-append}
 use Rattle.std.proofs.lemmas.List.{drop-drop, take_at, drop_at}
 use Rattle.std.specs.List.{concat}
 use Rattle.att_lexer.specs.declared.pieces.Span.{Span}
 use Rattle.att_lexer.specs.Pieces.{pieces, spans_of}
 use Rattle.att_lexer.proofs.PiecesLaws.{are_pieces}
 use Rattle.asm_writer.specs.Unit.{bytes_at}
-use Rattle.mao_core.specs.Entries.{Ascend}
-use Rattle.mao_core.specs.Kept.{LieWithin, is_among}
+use Rattle.mao_core.specs.Pieces.{LieWithin}
 
 -- the spans of pieces name the pieces
 pub spans_read : (text : List ℕ) (at : ℕ) (ps : List (List ℕ)) → drop at text ≡ concat ps → map (bytes_at text) (spans_of at ps) ≡ ps
@@ -20,22 +17,6 @@ spans_read text at (p ∷ ps) here =
 
 pub pieces_read : (text : List ℕ) (spans : List Span) → spans ≡ spans_of 0 (pieces text) → map (bytes_at text) spans ≡ pieces text
 pieces_read text spans cut = ap (map (bytes_at text)) cut ∙ spans_read text 0 (pieces text) (sym (are_pieces text).whole)
-
-pub differ : (a b : ℕ) → (a ≡ b → ⊥) → nat_eq a b ≡ false
-differ a b h = ne_eqb a b h
-
-or-false : (a b : Bool) → a ≡ false → b ≡ false → (a || b) ≡ false
-or-false a b e f = ap (λ x. x || b) e ∙ f
-
--- what ascends from a number on has none below it
-pub none_below : (n s : ℕ) (xs : List ℕ) → Ascend n xs → s < n → is_among s xs ≡ false
-none_below n s [] h lt = refl
-none_below n s (x ∷ xs) h lt =
-    let small : s < x = omega (arith, h.0, lt) in
-    or-false (nat_eq s x) (is_among s xs) (differ s x (λ e. omega (arith, small, e))) (none_below (x + 1) s xs h.1 (omega arith))
-
-pub same : (a b : ℕ) → a ≡ b → nat_eq a b ≡ true
-same a b e = ⊎_elim (λ t. t.0) (λ f. absurd (f.1 e)) (eqb_tells a b)
 
 -- spans lie within the text that they cut
 lies : (text : List ℕ) (at : ℕ) (ps : List (List ℕ)) → at + length (concat ps) ≡ length text → (k : ℕ) (d : Span) → k < length (spans_of at ps) → (slice_index_or (spans_of at ps) k d).start + (slice_index_or (spans_of at ps) k d).len ≤ length text

@@ -1,16 +1,14 @@
--- The names of the functions of a file, where nops go and serials change.
+-- The names of the functions of a file are made of the kinds of its entries.
 use Rattle.std.proofs.Common.{◌≡◌, ℕ, Bool, true, false, not, cond, List, [], ◌∷◌, map, filter, Option, Some, None, option_map, refl, sym, ap, ◌∙◌, inl}
 use Rattle.std.specs.Prelude.{◌&&◌, is_some, find}
-use Rattle.std.proofs.lemmas.Bool.{and_parts}
 use Rattle.insn_ir.specs.declared.entry.EntryKind.{EntryKind}
 use Rattle.insn_ir.specs.declared.entry.Entry.{Entry}
-use Rattle.insn_ir.specs.Entries.{kinds_of, is_nop_entry}
+use Rattle.insn_ir.specs.Entries.{kinds_of}
 use Rattle.jump_tables.specs.Sections.{Placed, placed}
 use Rattle.jump_tables.specs.Tables.{label_name}
 use Rattle.asm_unit.specs.Functions.{Part, is_label, label_of, name_at, name_of, parts, functions}
 use Rattle.asm_unit.specs.Freeze.{function_names}
-use Rattle.asm_unit.specs.Edits.{without, placed_without, part_without, KeepsFrames, placed_map, part_map, TakesNops}
-use Rattle.asm_unit.proofs.NopLaw.{functions_without_nops}
+use Rattle.asm_unit.specs.Edits.{KeepsFrames, placed_map, part_map}
 use Rattle.asm_unit.proofs.Mapped.{parts_changed}
 
 -- an entry of this kind, with no serial
@@ -61,51 +59,3 @@ by_kinds (e ∷ es) = ap (λ xs. strip e ∷ xs) (by_kinds es)
 pub names_of_kinds : (es fs : List Entry) → kinds_of es ≡ kinds_of fs → function_names (placed es) ≡ function_names (placed fs)
 names_of_kinds es fs k =
     sym (of_stripped es) ∙ ap (λ xs. function_names (placed xs)) (by_kinds es ∙ ap (map (λ k. record { serial = 0; kind = k })) k ∙ sym (by_kinds fs)) ∙ of_stripped fs
-
--- nops are no labels
-nop_no_label : (k : EntryKind) → is_nop_entry k ≡ true → is_some (label_name k) ≡ false
-nop_no_label (EntryKind.Label n) e = let no : false ≡ true = e in cc
-nop_no_label (EntryKind.Insn i) e = refl
-nop_no_label (EntryKind.Blank) e = refl
-nop_no_label (EntryKind.Directive d) e = refl
-nop_no_label EntryKind.InlineMark e = refl
-nop_no_label (EntryKind.Opaque ns) e = refl
-
--- nops alone
-abbrev nops_of : (Entry → Bool) → Entry → Bool
-nops_of gone e = gone e && is_nop_entry e.kind
-
-nops_alone : (gone : Entry → Bool) (es : List Entry) → TakesNops (nops_of gone) es
-nops_alone gone [] = tt
-nops_alone gone (e ∷ es) = ((λ t. (and_parts (gone e) (is_nop_entry e.kind) t).1), nops_alone gone es)
-
-label_stays : (gone : Entry → Bool) (ps : List Placed) → find is_label (placed_without (nops_of gone) ps) ≡ find is_label ps
-label_stays gone [] = refl
-label_stays gone (p ∷ ps) = by_test (nops_of gone p.entry) refl (label_stays gone ps)
-  where
-    by_test : (b : Bool) → nops_of gone p.entry ≡ b → find is_label (placed_without (nops_of gone) ps) ≡ find is_label ps → find is_label (cond (not b) (p ∷ placed_without (nops_of gone) ps) (placed_without (nops_of gone) ps)) ≡ cond (is_label p) (Some p) (find is_label ps)
-    by_test true g rest =
-        rest ∙ ap (λ b. cond b (Some p) (find is_label ps)) (sym (nop_no_label p.entry.kind (and_parts (gone p.entry) (is_nop_entry p.entry.kind) g).1))
-    by_test false g rest = ap (λ o. cond (is_label p) (Some p) o) rest
-
-names_stay : (gone : Entry → Bool) (fs : List Part) → map name_of (map (part_without (nops_of gone)) fs) ≡ map name_of fs
-names_stay gone [] = refl
-names_stay gone (f ∷ fs) =
-    ap (λ n. n ∷ map name_of (map (part_without (nops_of gone)) fs)) (ap name_at (label_stays gone f.body)) ∙ ap (λ ns. name_of f ∷ ns) (names_stay gone fs)
-
-true_alone : (a b : Bool) → (a ≡ true → b ≡ true) → a ≡ (a && b)
-true_alone true b h = sym (h refl)
-true_alone false b h = refl
-
-same_gone : (gone : Entry → Bool) (es : List Entry) → TakesNops gone es → without gone es ≡ without (nops_of gone) es
-same_gone gone [] h = refl
-same_gone gone (e ∷ es) h =
-    ap (λ b. cond (not b) (e ∷ without gone es) (without gone es)) (true_alone (gone e) (is_nop_entry e.kind) h.0)
-    ∙ ap (λ l. cond (not (nops_of gone e)) (e ∷ l) l) (same_gone gone es h.1)
-
--- the names stay where nothing but nops goes
-pub names_without_nops : (gone : Entry → Bool) (es : List Entry) → TakesNops gone es → function_names (placed (without gone es)) ≡ function_names (placed es)
-names_without_nops gone es h =
-    ap (λ xs. function_names (placed xs)) (same_gone gone es h)
-    ∙ ap (map name_of) (functions_without_nops (nops_of gone) es (nops_alone gone es))
-    ∙ names_stay gone (functions (placed es))

@@ -5,7 +5,7 @@ use Rattle.asm_unit.specs.Decisions.{codes}
 use Rattle.asm_unit.specs.Edits.{SameEach}
 use Rattle.asm_unit.specs.Freeze.{function_names}
 use Rattle.mao_core.specs.Entries.{entries_of}
-use Rattle.mao_core.specs.Removed.{decided}
+use Rattle.mao_core.specs.Decided.{decided}
 
 -- the names of the functions of a text, in order
 abbrev pub names_in : List ℕ → List (List ℕ)

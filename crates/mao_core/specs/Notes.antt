@@ -1,11 +1,16 @@
 -- What a run tells on its notes.
-use Rattle.std.specs.Prelude.{ℕ, ◌+◌, ◌-◌, ◌==◌, List, [], ◌∷◌, ◌++◌, Option, Some, None, codes, decimal, count_by, slice_index, length}
+use Rattle.std.specs.Prelude.{ℕ, ◌+◌, ◌-◌, ◌==◌, Bool, List, [], ◌∷◌, ◌++◌, Option, Some, None, codes, decimal, count_by, slice_index, if◌then◌else◌}
 use Rattle.std.specs.List.{flat_map}
 use Rattle.asm_unit.specs.declared.cause.FreezeKind.{FreezeKind}
 use Rattle.asm_unit.specs.declared.cause.FreezeCause.{FreezeCause}
 use Rattle.asm_unit.specs.Decisions.{Decision}
+use Rattle.asm_unit.specs.Unit.{Unit}
 use Rattle.att_lexer.specs.Pieces.{pieces}
-use Rattle.mao_core.specs.Removed.{decided, file_frozen, removed_of}
+use Rattle.pass_script.specs.declared.script.Step.{Step}
+use Rattle.unit_edits.specs.declared.journal.Part.{Part}
+use Rattle.journal_lines.specs.Lines.{journal_lines}
+use Rattle.journal_lines.specs.Steps.{step_notes}
+use Rattle.mao_core.specs.Decided.{decided, file_frozen}
 
 -- the line of each piece, where the first stands on the given one: a newline begins the next
 abbrev pub lines_from : ℕ → List (List ℕ) → List ℕ
@@ -37,15 +42,20 @@ frozen_note lines name None = []
 frozen_note lines name (Some c) =
     name ++ codes " unchanged: " ++ cause_text c.kind ++ codes ", line " ++ decimal (line_of lines c.serial) ++ codes "\n"
 
--- `step 1 NOPKILL: N edits`
-abbrev pub step_note : ℕ → List ℕ
-step_note edits = codes "step 1 NOPKILL: " ++ decimal edits ++ codes " edits\n"
+-- the notes on what is frozen
+abbrev pub frozen_notes : List ℕ → Option FreezeCause → List Decision → List ℕ
+frozen_notes lines file ds = file_note lines file ++ flat_map (λ d. frozen_note lines d.name d.cause) ds
 
--- all the notes: of the file, of each function that is kept as it is, of the step
-abbrev pub notes_text : List ℕ → Option FreezeCause → List Decision → ℕ → List ℕ
-notes_text lines file ds edits =
-    file_note lines file ++ flat_map (λ d. frozen_note lines d.name d.cause) ds ++ step_note edits
+-- a line for each edit, if that is asked for
+abbrev pub journal_notes : Bool → Unit → List Part → List ℕ
+journal_notes with_journal u journal = if with_journal then journal_lines u journal else []
 
--- the notes on a text
-abbrev pub notes_of : List ℕ → List ℕ
-notes_of text = notes_text (lines_from 1 (pieces text)) (file_frozen text) (decided text) (length (removed_of text))
+-- all the notes: of the file, of each function that is kept as it is, of the steps and of the edits
+abbrev pub notes_text : List ℕ → Option FreezeCause → List Decision → List Step → Bool → Unit → List Part → List ℕ
+notes_text lines file ds steps with_journal u journal =
+    frozen_notes lines file ds ++ step_notes steps journal ++ journal_notes with_journal u journal
+
+-- the notes on a text to whose unit steps were done
+abbrev pub notes_of : List Step → Bool → List ℕ → Unit → List Part → List ℕ
+notes_of steps with_journal text final journal =
+    notes_text (lines_from 1 (pieces text)) (file_frozen text) (decided text) steps with_journal final journal

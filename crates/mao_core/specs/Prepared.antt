@@ -1,26 +1,18 @@
 -- What is to be written of a text.
-use Rattle.std.specs.Prelude.{◌≡◌, ℕ, List, map, length, Some}
-use Rattle.att_lexer.specs.Pieces.{pieces, spans_of}
-use Rattle.asm_unit.specs.Held as Held
+use Rattle.std.specs.Prelude.{◌≡◌, Bool, List}
 use Rattle.asm_unit.specs.Unit.{Unit}
-use Rattle.asm_writer.specs.Unit.{unit_text, AreWritable}
+use Rattle.asm_writer.specs.Unit.{AreWritable}
+use Rattle.pass_script.specs.declared.script.Step.{Step}
+use Rattle.pass_base.specs.Books.{BoxView}
+use Rattle.pass_driver.specs.Outcome.{IsRun}
 use Rattle.mao_core.specs.declared.preparing.Prepared.{Prepared}
-use Rattle.mao_core.specs.Entries.{entries_of}
-use Rattle.mao_core.specs.Kept.{text_without}
-use Rattle.mao_core.specs.Removed.{decided, file_frozen, removed_of}
+use Rattle.mao_core.specs.Decided.{IsUnitOf}
 use Rattle.mao_core.specs.Notes.{notes_of}
 
--- the unit of a text: its entries, each with the span of its piece, and what is decided of them
-pub record IsUnitOf (text : List ℕ) (u : Unit) : Type 0 where
-  pub entries : Held.entries_of u.held ≡ entries_of text
-  pub spans : map (λ h. h.span) u.held ≡ map Some (spans_of 0 (pieces text))
-  pub decided : u.decided ≡ decided text
-  pub file : u.file ≡ file_frozen text
-  pub last : u.last ≡ length u.held
-
--- the unit's text is the text without what was removed, and it can be written; the notes are those on the text
-pub record IsPrepared (p : Prepared) : Type 0 where
-  pub removed : p.removed ≡ removed_of p.text.items
-  pub output : unit_text p.text.items p.unit.held ≡ text_without p.removed p.text.items
-  pub notes : p.notes.items ≡ notes_of p.text.items
+-- the steps were done to the unit of the text by the boxes of a book; the notes tell of it, and the unit can be written
+pub record IsPrepared (steps : List Step) (with_journal : Bool) (p : Prepared) (before after : List BoxView) : Type 0 where
+  pub read : Unit
+  pub of_text : IsUnitOf p.text.items read
+  pub run : IsRun steps p.journal read p.unit before after
+  pub notes : p.notes.items ≡ notes_of steps with_journal p.text.items p.unit p.journal
   pub writable : AreWritable p.text.items p.unit.held

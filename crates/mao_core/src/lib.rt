@@ -6,7 +6,6 @@ mod lines;
 mod notes;
 mod preparing;
 mod reading;
-mod removal;
 mod told;
 mod top;
 

@@ -2,7 +2,7 @@
 ghost use Rattle.std.specs.Prelude.{◌≡◌, ◌+◌, ◌-◌, ◌^◌, ◌<◌, ◌≤◌, ◌==◌, length, count_by, IfOk};
 ghost use Rattle.att_lexer.specs.Pieces.{NoneEarlier, pieces, spans_of};
 ghost use Rattle.asm_writer.specs.Unit.{bytes_at};
-ghost use Rattle.mao_core.specs.Kept.{LieWithin};
+ghost use Rattle.mao_core.specs.Pieces.{LieWithin};
 ghost use Rattle.mao_core.specs.Notes.{lines_from};
 
 use att_lexer::Span;

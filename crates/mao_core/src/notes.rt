@@ -1,11 +1,15 @@
 // What a run tells on its notes.
 ghost use Rattle.std.specs.Prelude.{◌≡◌, ◌++◌, IfOk, OnOk, decimal};
 ghost use Rattle.std.specs.List.{flat_map};
-ghost use Rattle.mao_core.specs.Notes.{line_of, cause_text, file_note, frozen_note, step_note, notes_text};
+ghost use Rattle.journal_lines.specs.Lines.{AreOfFunctions, AreOfProfile};
+ghost use Rattle.mao_core.specs.Notes.{line_of, cause_text, file_note, frozen_note, journal_notes, notes_text};
 
 use asm_unit::{AsmUnit, FreezeCause, FreezeKind};
 use itoa::Buffer;
+use journal_lines::{journal_text, step_lines};
+use mao_words::Asked;
 use std::alloc::{AllocError, Global};
+use unit_edits::Journal;
 
 fn cause_text(kind: FreezeKind) -> &'static [u8]
     ensures { result.now ≡ cause_text kind }
@@ -86,13 +90,22 @@ fn put_frozen_note(
     Ok(())
 }
 
-// Appends the note on the one step.
-fn put_step_note(text: &mut Vec<u8>, edits: usize) -> Result<(), AllocError>
-    ensures { OnOk result (text.new.items ≡ text.old.items ++ step_note edits) }
+// Appends a line for each edit, if that is asked for.
+fn put_journal(
+    alloc: Global,
+    text: &mut Vec<u8>,
+    unit: &AsmUnit,
+    journal: &Journal,
+    is_asked: bool,
+) -> Result<(), AllocError>
+    requires functions { AreOfFunctions unit.now journal.now }
+    requires profile { AreOfProfile journal.now }
+    ensures { OnOk result (text.new.items ≡ text.old.items ++ journal_notes is_asked unit.now journal.now) }
 {
-    put(text, b"step 1 NOPKILL: ")?;
-    put_number(text, edits)?;
-    put(text, b" edits\n")?;
+    if is_asked {
+        let lines = journal_text(alloc, journal, unit)?;
+        put(text, &lines)?;
+    }
     Ok(())
 }
 
@@ -106,18 +119,23 @@ fn put_frozen_notes(text: &mut Vec<u8>, lines: &[u32], unit: &AsmUnit) -> Result
     Ok(())
 }
 
-/// The notes on a unit of which so many entries are removed. `lines` has the line of each piece.
+/// The notes on a unit to which steps were done, with a line for each edit if that is asked for. `lines` has the line of each piece.
 pub fn notes_of_unit(
     alloc: Global,
     lines: &[u32],
     unit: &AsmUnit,
-    edits: usize,
+    asked: &Asked,
+    journal: &Journal,
 ) -> Result<Vec<u8>, AllocError>
-    ensures { IfOk result (λ text. text.items ≡ notes_text lines.now unit.now.file unit.now.decided edits) }
+    requires functions { AreOfFunctions unit.now journal.now }
+    requires profile { AreOfProfile journal.now }
+    ensures { IfOk result (λ text. text.items ≡ notes_text lines.now unit.now.file unit.now.decided asked.now.steps asked.now.journal unit.now journal.now) }
 {
     let mut text = Vec::new(alloc);
     put_file_note(&mut text, lines, unit.file_frozen())?;
     put_frozen_notes(&mut text, lines, unit)?;
-    put_step_note(&mut text, edits)?;
+    let steps = step_lines(alloc, asked.steps.as_slice(), journal)?;
+    put(&mut text, &steps)?;
+    put_journal(alloc, &mut text, unit, journal, asked.journal)?;
     Ok(text)
 }

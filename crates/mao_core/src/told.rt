@@ -9,8 +9,8 @@ fn status_line(status: Status) -> &'static [u8]
     ensures { result.now ≡ status_line status }
 {
     match status {
-        Status::Fine | Status::NotesFault => b"",
-        Status::Usage => b"mao: usage\n",
+        // The words and the script have lines of their own.
+        Status::Fine | Status::NotesFault | Status::Usage => b"",
         Status::ReadFault => b"mao: read fault\n",
         Status::TooBig => b"mao: input too big\n",
         Status::NoMemory => b"mao: out of memory\n",
@@ -18,9 +18,16 @@ fn status_line(status: Status) -> &'static [u8]
     }
 }
 
+/// Offers a line. A fault of the sink changes nothing.
+pub fn offer<N: Sink>(notes: &mut N, line: &[u8])
+    ensures { IsOffered (N.taken notes.old) (N.taken notes.new) (N.faults notes.old) (N.faults notes.new) line.now }
+{
+    let _ = put_all(notes, line);
+}
+
 /// Offers the line of a status. A fault of the sink changes nothing.
 pub fn tell<N: Sink>(notes: &mut N, status: Status)
     ensures { IsOffered (N.taken notes.old) (N.taken notes.new) (N.faults notes.old) (N.faults notes.new) (status_line status) }
 {
-    let _ = put_all(notes, status_line(status));
+    offer(notes, status_line(status));
 }

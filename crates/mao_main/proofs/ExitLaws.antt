@@ -31,6 +31,15 @@ is_usage NoMemory e = cc
 is_usage WriteFault e = cc
 is_usage NotesFault e = cc
 
+pub is_no_memory : (s : Status) → s ≡ NoMemory → exit_number s ≡ 4
+is_no_memory NoMemory e = refl
+is_no_memory Fine e = cc
+is_no_memory Usage e = cc
+is_no_memory ReadFault e = cc
+is_no_memory TooBig e = cc
+is_no_memory WriteFault e = cc
+is_no_memory NotesFault e = cc
+
 pub range : (s : Status) → exit_number s ≤ 6
 range Fine = lit≤ tt
 range Usage = lit≤ tt

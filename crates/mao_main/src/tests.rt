@@ -3,7 +3,10 @@ use att_reader::read_entry;
 use insn_ir::{DirectiveKind, EntryKind};
 use mao_core::{Report, Status, mao};
 use mao_outside::{MemSink, MemSource};
+use pass_base::{Pass, PassBook};
+use pass_drops::{NopIn, NopKill};
 use std::alloc::AllocGlobal;
+use std::boxed::Box;
 use std::process::Abort;
 use std::test::Fail;
 
@@ -15,64 +18,155 @@ const WITH_NOPS: &[u8; 120] =
 const WITHOUT_NOPS: &[u8; 105] =
     b"\t.text\n\t.p2align 4\n\t.type f, @function\nf:\n\tmovl $1, %eax\n\tje .L2\n\taddq $-1, %rax\n.L2:\n\tret\n\t.size f, .-f\n";
 
-// What a run came to: the report, and what each sink took.
+// What a run came to: its status, how many parts its journal has, and what each sink took.
 #[derive(Drop)]
 struct Outcome {
-    report: Report,
+    status: Status,
+    parts: usize,
     taken: Vec<u8>,
     noted: Vec<u8>,
 }
 
-fn filtered(rt: &(impl Abort + AllocGlobal), text: &[u8]) -> Result<Outcome, Fail> {
+// Runs the command by a book of its own.
+fn run_by_boxes(
+    rt: &(impl Abort + AllocGlobal),
+    words: &[&str],
+    source: &mut MemSource,
+    out: &mut MemSink,
+    notes: &mut MemSink,
+) -> Result<Report, Fail> {
+    let mut boxes: Vec<Box<dyn Pass>> = Vec::new(rt.alloc());
+    boxes.push(Box::new(rt.alloc(), NopIn::new())?)?;
+    boxes.push(Box::new(rt.alloc(), NopKill::new())?)?;
+    let mut book = PassBook::new(boxes).expect(rt, "a box for each kind of the catalogue");
+    Ok(mao(rt.alloc(), words, source, out, notes, &mut book))
+}
+
+fn outcome_by(
+    rt: &(impl Abort + AllocGlobal),
+    words: &[&str],
+    text: &[u8],
+) -> Result<Outcome, Fail> {
     let mut source = MemSource::new(text.to_vec(rt.alloc())?, 1000, Vec::new(rt.alloc()));
-    let mut out = MemSink::new(rt.alloc(), text.len(), 64, Vec::new(rt.alloc()))?;
+    let mut out = MemSink::new(rt.alloc(), 2000, 64, Vec::new(rt.alloc()))?;
     let mut notes = MemSink::new(rt.alloc(), 1000, 64, Vec::new(rt.alloc()))?;
-    let report = mao(rt.alloc(), &COMMAND, &mut source, &mut out, &mut notes);
+    let report = run_by_boxes(rt, words, &mut source, &mut out, &mut notes)?;
     Ok(Outcome {
-        report,
+        status: report.status,
+        parts: report.journal.parts().len(),
         taken: out.taken().to_vec(rt.alloc())?,
         noted: notes.taken().to_vec(rt.alloc())?,
     })
 }
 
-#[test]
-fn nops_of_clear_functions_go(rt: HostRuntime) -> Result<(), Fail> {
-    let cases: [(&[u8], &[u8], &[u32], &[u8]); 6] = [
-        (
-            WITH_NOPS,
-            WITHOUT_NOPS,
-            &[7, 10, 13],
-            b"step 1 NOPKILL: 3 edits\n",
-        ),
-        (
-            b"\t.text\n\t.p2align 4\n\t.type f, @function\nf:\n\tnop; nop; ret\n\t.size f, .-f\n",
-            b"\t.text\n\t.p2align 4\n\t.type f, @function\nf:\n ret\n\t.size f, .-f\n",
-            &[6, 7],
-            b"step 1 NOPKILL: 2 edits\n",
-        ),
-        (
-            b".text\r\n.type f,@function\r\nf: nop\r\n\tret\r\n.size f,.-f",
-            b".text\r\n.type f,@function\r\nf:\tret\r\n.size f,.-f",
-            &[4],
-            b"step 1 NOPKILL: 1 edits\n",
-        ),
-        (
-            b".text\n.type f,@function\nf: nop\njmp f\n.size f,.-f\n",
-            b".text\n.type f,@function\nf:jmp f\n.size f,.-f\n",
-            &[4],
-            b"step 1 NOPKILL: 1 edits\n",
-        ),
-        (b"", b"", &[], b"step 1 NOPKILL: 0 edits\n"),
-        (b"\tnop\n", b"\tnop\n", &[], b"step 1 NOPKILL: 0 edits\n"),
-    ];
-    for (text, wanted, removed, noted) in cases {
-        let outcome = filtered(&rt, text)?;
-        assert_eq!(rt; outcome.report.status, Status::Fine);
-        assert_eq!(rt; outcome.report.removed.as_slice(), removed);
-        assert_eq!(rt; outcome.taken.as_slice(), wanted);
-        assert_eq!(rt; outcome.noted.as_slice(), noted);
+fn filtered(rt: &(impl Abort + AllocGlobal), text: &[u8]) -> Result<Outcome, Fail> {
+    outcome_by(rt, &COMMAND, text)
+}
+
+// A run, with its words: the text, what is written, and the notes.
+fn check_runs(
+    rt: &(impl Abort + AllocGlobal),
+    cases: &[(&[&str], &[u8], &[u8], &[u8])],
+) -> Result<(), Fail> {
+    for (words, text, wanted, noted) in cases {
+        let outcome = outcome_by(rt, words, text)?;
+        assert_eq!(rt; outcome.status, Status::Fine);
+        assert_eq!(rt; outcome.taken.as_slice(), *wanted);
+        assert_eq!(rt; outcome.noted.as_slice(), *noted);
     }
     Ok(())
+}
+
+#[test]
+fn nops_of_clear_functions_go(rt: HostRuntime) -> Result<(), Fail> {
+    let words: &[&str] = &["mao", "--mao=NOPKILL", "--journal"];
+    check_runs(
+        &rt,
+        &[
+            (
+                words,
+                WITH_NOPS,
+                WITHOUT_NOPS,
+                b"step 1 NOPKILL: 3 edits\nedit 1 f remove 7\nedit 1 f remove 10\nedit 1 f remove 13\n",
+            ),
+            (
+                words,
+                b"\t.text\n\t.p2align 4\n\t.type f, @function\nf:\n\tnop; nop; ret\n\t.size f, .-f\n",
+                b"\t.text\n\t.p2align 4\n\t.type f, @function\nf:\n ret\n\t.size f, .-f\n",
+                b"step 1 NOPKILL: 2 edits\nedit 1 f remove 6\nedit 1 f remove 7\n",
+            ),
+            (
+                words,
+                b".text\r\n.type f,@function\r\nf: nop\r\n\tret\r\n.size f,.-f",
+                b".text\r\n.type f,@function\r\nf:\tret\r\n.size f,.-f",
+                b"step 1 NOPKILL: 1 edits\nedit 1 f remove 4\n",
+            ),
+            (
+                words,
+                b".text\n.type f,@function\nf: nop\njmp f\n.size f,.-f\n",
+                b".text\n.type f,@function\nf:jmp f\n.size f,.-f\n",
+                b"step 1 NOPKILL: 1 edits\nedit 1 f remove 4\n",
+            ),
+            (words, b"", b"", b"step 1 NOPKILL: 0 edits\n"),
+            (words, b"\tnop\n", b"\tnop\n", b"step 1 NOPKILL: 0 edits\n"),
+        ],
+    )
+}
+
+const FOUR_PLACES: &[u8] =
+    b"\t.text\n\t.p2align 4\n\t.type f, @function\nf:\n\tmovl $1, %eax\n\tmovl $2, %ecx\n\tmovl $3, %edx\n\tret\n\t.size f, .-f\n";
+
+#[test]
+fn nops_come_by_the_draws(rt: HostRuntime) -> Result<(), Fail> {
+    check_runs(
+        &rt,
+        &[
+            (
+                &["mao", "--mao=NOPIN=seed[42],density[50]", "--journal"],
+                b"\t.text\n\t.p2align 4\n\t.type f, @function\nf:\n\tnop\n\tret\n\t.size f, .-f\n",
+                b"\t.text\n\t.p2align 4\n\t.type f, @function\nf:\n\tnop\n\tret\n\t.size f, .-f\n",
+                b"step 1 NOPIN: 0 edits\n",
+            ),
+            (
+                &["mao", "--mao=NOPIN=seed[42],density[50]", "--journal"],
+                FOUR_PLACES,
+                b"\t.text\n\t.p2align 4\n\t.type f, @function\nf:\n\tmovl $1, %eax\n\tmovl $2, %ecx\n\tnop\n\tmovl $3, %edx\n\tret\n\t.size f, .-f\n",
+                b"step 1 NOPIN: 1 edits\nedit 1 f nop 8 11\n",
+            ),
+        ],
+    )
+}
+
+#[test]
+fn steps_work_on_what_the_steps_before_left(rt: HostRuntime) -> Result<(), Fail> {
+    check_runs(
+        &rt,
+        &[
+            (
+                &[
+                    "mao",
+                    "--journal",
+                    "--mao=NOPIN=seed[42],density[50]:NOPKILL",
+                ],
+                FOUR_PLACES,
+                FOUR_PLACES,
+                b"step 1 NOPIN: 1 edits\nstep 2 NOPKILL: 1 edits\nedit 1 f nop 8 11\nedit 2 f remove 11\n",
+            ),
+            (&["mao"], WITH_NOPS, WITH_NOPS, b""),
+            (
+                &["mao", "--mao=NOPKILL:NOPKILL"],
+                WITH_NOPS,
+                WITHOUT_NOPS,
+                b"step 1 NOPKILL: 3 edits\nstep 2 NOPKILL: 0 edits\n",
+            ),
+            (
+                &["mao", "--mao=NOPKILL=align[1]"],
+                b"\t.text\n\t.p2align 4\n\t.type f, @function\nf:\n\t.p2align 3\n\tret\n\t.size f, .-f\n",
+                b"\t.text\n\t.p2align 4\n\t.type f, @function\nf:\n\tret\n\t.size f, .-f\n",
+                b"step 1 NOPKILL: 1 edits\n",
+            ),
+        ],
+    )
 }
 
 // A file of one function, which is kept as it is, and the line that says why.
@@ -119,8 +213,7 @@ const KEPT: [(&[u8], &[u8]); 9] = [
 fn functions_with_a_cause_are_kept_and_noted(rt: HostRuntime) -> Result<(), Fail> {
     for (text, why) in KEPT {
         let outcome = filtered(&rt, text)?;
-        assert_eq!(rt; outcome.report.status, Status::Fine);
-        assert!(rt; outcome.report.removed.as_slice().is_empty());
+        assert_eq!(rt; outcome.status, Status::Fine);
         assert_eq!(rt; outcome.taken.as_slice(), text);
         let mut noted = why.to_vec(rt.alloc())?;
         noted.extend_from_slice(b"step 1 NOPKILL: 0 edits\n")?;
@@ -136,7 +229,6 @@ fn each_function_is_judged_by_itself(rt: HostRuntime) -> Result<(), Fail> {
     let wanted =
         b".text\n.type f,@function\nf: nop\naddsd %xmm1, %xmm0\nret\n.size f,.-f\n.type g,@function\ng:ret\n.size g,.-g\n.type h,@function\nh: fld1\nnop\nret\n.size h,.-h\n";
     let outcome = filtered(&rt, text)?;
-    assert_eq!(rt; outcome.report.removed.as_slice(), [10].as_slice());
     assert_eq!(rt; outcome.taken.as_slice(), wanted.as_slice());
     assert_eq!(rt;
         outcome.noted.as_slice(),
@@ -152,7 +244,7 @@ const PICK: &[u8] =
 #[test]
 fn a_jump_table_keeps_its_function_clear(rt: HostRuntime) -> Result<(), Fail> {
     let outcome = filtered(&rt, PICK)?;
-    assert_eq!(rt; outcome.report.status, Status::Fine);
+    assert_eq!(rt; outcome.status, Status::Fine);
     assert_eq!(rt; outcome.taken.as_slice(), PICK);
     assert_eq!(rt;
         outcome.noted.as_slice(),
@@ -163,25 +255,33 @@ fn a_jump_table_keeps_its_function_clear(rt: HostRuntime) -> Result<(), Fail> {
 
 #[test]
 fn wrong_words_are_usage_and_read_nothing(rt: HostRuntime) -> Result<(), Fail> {
-    let cases: [&[&str]; 5] = [
-        &["mao"],
-        &["mao", "--mao=ZEE"],
-        &["mao", "--mao=NOPKILL", "--mao=NOPKILL"],
-        &["mao", "--mao"],
-        &[],
+    let cases: [(&[&str], &[u8]); 7] = [
+        (&["mao", "--mao"], b"mao: usage\n"),
+        (&["mao", "--mao=NOPKILL", "--mao=NOPKILL"], b"mao: usage\n"),
+        (
+            &["mao", "--mao=NOPKILL:FOO"],
+            b"mao: script: unknown pass at 8\n",
+        ),
+        (
+            &["mao", "--mao=NOPIN=density[101]"],
+            b"mao: script: bad number at 14\n",
+        ),
+        (&["mao", "--mao=NOPIN:"], b"mao: script: malformed at 6\n"),
+        (
+            &["mao", "--mao=NOPKILL=foo[1]"],
+            b"mao: script: unknown option at 8\n",
+        ),
+        (
+            &["mao", "--mao=NOPIN=seed[1],seed[2]"],
+            b"mao: script: malformed at 14\n",
+        ),
     ];
-    for words in cases {
-        let mut source = MemSource::new(WITH_NOPS.to_vec(rt.alloc())?, 1000, Vec::new(rt.alloc()));
-        let mut out = MemSink::new(rt.alloc(), 200, 64, Vec::new(rt.alloc()))?;
-        let mut notes = MemSink::new(rt.alloc(), 200, 64, Vec::new(rt.alloc()))?;
-        assert_eq!(rt;
-            mao(rt.alloc(), words, &mut source, &mut out, &mut notes).status,
-            Status::Usage
-        );
-        assert_eq!(rt; notes.taken(), b"mao: usage\n".as_slice());
-        let report = mao(rt.alloc(), &COMMAND, &mut source, &mut out, &mut notes);
-        assert_eq!(rt; report.status, Status::Fine);
-        assert_eq!(rt; out.taken(), WITHOUT_NOPS.as_slice());
+    for (words, line) in cases {
+        let outcome = outcome_by(&rt, words, WITH_NOPS)?;
+        assert_eq!(rt; outcome.status, Status::Usage);
+        assert_eq!(rt; outcome.parts, 0);
+        assert_eq!(rt; outcome.taken.as_slice(), b"".as_slice());
+        assert_eq!(rt; outcome.noted.as_slice(), line);
     }
     Ok(())
 }
@@ -200,9 +300,10 @@ fn with_faults(
     );
     let mut out = MemSink::new(rt.alloc(), 200, 1, writes.to_vec(rt.alloc())?)?;
     let mut notes = MemSink::new(rt.alloc(), 200, 1, tells.to_vec(rt.alloc())?)?;
-    let report = mao(rt.alloc(), &COMMAND, &mut source, &mut out, &mut notes);
+    let report = run_by_boxes(rt, &COMMAND, &mut source, &mut out, &mut notes)?;
     Ok(Outcome {
-        report,
+        status: report.status,
+        parts: report.journal.parts().len(),
         taken: out.taken().to_vec(rt.alloc())?,
         noted: notes.taken().to_vec(rt.alloc())?,
     })
@@ -211,11 +312,11 @@ fn with_faults(
 #[test]
 fn faults_of_the_streams_are_told(rt: HostRuntime) -> Result<(), Fail> {
     let read = with_faults(&rt, &[1], &[], &[])?;
-    assert_eq!(rt; read.report.status, Status::ReadFault);
+    assert_eq!(rt; read.status, Status::ReadFault);
     assert_eq!(rt; read.taken.as_slice(), b"".as_slice());
     assert_eq!(rt; read.noted.as_slice(), b"mao: read fault\n".as_slice());
     let write = with_faults(&rt, &[], &[2], &[])?;
-    assert_eq!(rt; write.report.status, Status::WriteFault);
+    assert_eq!(rt; write.status, Status::WriteFault);
     assert_eq!(rt; write.taken.as_slice(), b"\t".as_slice());
     assert_eq!(rt; write.noted.as_slice(), b"mao: write fault\n".as_slice());
     Ok(())
@@ -224,14 +325,14 @@ fn faults_of_the_streams_are_told(rt: HostRuntime) -> Result<(), Fail> {
 #[test]
 fn a_fault_of_the_notes_comes_behind_the_whole_text(rt: HostRuntime) -> Result<(), Fail> {
     let first = with_faults(&rt, &[], &[], &[1])?;
-    assert_eq!(rt; first.report.status, Status::NotesFault);
+    assert_eq!(rt; first.status, Status::NotesFault);
     assert_eq!(rt; first.taken.as_slice(), WITHOUT_NOPS.as_slice());
     assert_eq!(rt; first.noted.as_slice(), b"".as_slice());
     let later = with_faults(&rt, &[], &[], &[5])?;
-    assert_eq!(rt; later.report.status, Status::NotesFault);
+    assert_eq!(rt; later.status, Status::NotesFault);
     assert_eq!(rt; later.noted.as_slice(), b"step".as_slice());
     let both = with_faults(&rt, &[1], &[], &[2])?;
-    assert_eq!(rt; both.report.status, Status::ReadFault);
+    assert_eq!(rt; both.status, Status::ReadFault);
     assert_eq!(rt; both.noted.as_slice(), b"m".as_slice());
     Ok(())
 }
@@ -263,7 +364,7 @@ fn limits_are_exact(rt: HostRuntime) -> Result<(), Fail> {
         let mut source = MemSource::new(text, 1_000_000, Vec::new(rt.alloc()));
         let mut out = MemSink::new(rt.alloc(), len, 1_000_000, Vec::new(rt.alloc()))?;
         let mut notes = MemSink::new(rt.alloc(), 200, 200, Vec::new(rt.alloc()))?;
-        let report = mao(rt.alloc(), &COMMAND, &mut source, &mut out, &mut notes);
+        let report = run_by_boxes(&rt, &COMMAND, &mut source, &mut out, &mut notes)?;
         assert_eq!(rt; report.status, status);
         let taken = if status == Status::Fine { len } else { 0 };
         assert_eq!(rt; out.taken().len(), taken);

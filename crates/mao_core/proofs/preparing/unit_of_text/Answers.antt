@@ -1,8 +1,7 @@
 use Rattle.std.proofs.Common.{ap, length, ◌∙◌, arith}
 use Rattle.att_lexer.specs.Pieces.{pieces}
-use Rattle.mao_core.proofs.JudgedLaws.{length_spans}
 use Rattle.mao_core.proofs.KeptLaws.{spans_lie}
-use Rattle.mao_core.proofs.PreparedLaws.{as_many, are_numbered, length_of_entries}
+use Rattle.mao_core.proofs.Numbers.{length_spans, as_many, are_numbered, length_of_entries}
 use Rattle.mao_core.proofs.preparing.unit_of_text.Goals as goal
 
 pub read_entries-requires-clause-spans : goal.read_entries-requires-clause-spans
