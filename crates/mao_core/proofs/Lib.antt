@@ -10,3 +10,4 @@ pub mod LineLaws
 pub mod EditedText
 pub mod JournalLaws
 pub mod DoneLaws
+pub mod ExitLaws

@@ -9,3 +9,4 @@ pub mod Prepared
 pub mod Outcome
 pub mod Told
 pub mod Delivered
+pub mod Exit

@@ -2,6 +2,7 @@
 #![tactic(auto)]
 
 mod entries;
+mod exit;
 mod lines;
 mod notes;
 mod preparing;
@@ -9,4 +10,5 @@ mod reading;
 mod told;
 mod top;
 
+pub use exit::{exit_of, filter};
 pub use top::{Report, Status, mao};

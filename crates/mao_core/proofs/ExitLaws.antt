@@ -2,7 +2,7 @@
 use Rattle.std.proofs.Common.{◌≡◌, ◌≤◌, refl, lit≤}
 use Rattle.mao_core.specs.declared.top.Status.{Status}
 use Rattle.mao_core.specs.declared.top.Status.TheVariants.{Fine, Usage, ReadFault, TooBig, NoMemory, WriteFault, NotesFault}
-use Rattle.mao_main.specs.Exit.{exit_number}
+use Rattle.mao_core.specs.Exit.{exit_number}
 
 pub zero : (s : Status) → exit_number s ≡ 0 → s ≡ Fine
 zero Fine e = refl
