@@ -1,5 +1,5 @@
 #!/usr/bin/env python3
-"""Times `mao --mao=NOPKILL`, and reading alone, beside `cat` and `as` on texts in GCC's form, as ratios in one run.
+"""Times `mao --mao=NOPKILL`, scripts of more steps, and reading alone, beside `cat` and `as` on texts in GCC's form, as ratios in one run.
 
 Usage: bench/ratios.py [PROGRAM [READER]]   (default: ./mao, crates/reading_bench/out/reading_bench)
 
@@ -118,6 +118,19 @@ def peak_of(command, path):
     return int(subprocess.run([sys.executable, "-c", PEAK, path, *command], capture_output=True, text=True).stdout)
 
 
+def print_scripts(program, path):
+    """Times scripts on one text. 32 steps do the work of one 32 times, and read and write once."""
+    assembled = timed(["as", "-o", "/dev/null"], path, runs=2) if shutil.which("as") else None
+    one = timed([program, "--mao=NOPKILL"], path)
+    for name, script in [("NOPIN at density 10", "NOPIN"), ("32 steps", ":".join(["NOPIN", "NOPKILL"] * 16))]:
+        own = timed([program, "--mao=" + script], path)
+        if own is None or one is None:
+            print(f"{name}: mao fails")
+            continue
+        line = f"GCC's form, 32 MiB, {name}: {own:.3f} s, {own / one:.2f} times NOPKILL alone"
+        print(line + (f", {own / assembled:.3f} times as" if assembled else ""), flush=True)
+
+
 def main():
     program = sys.argv[1] if len(sys.argv) > 1 else "./mao"
     if not os.access(program, os.X_OK):
@@ -163,6 +176,9 @@ def main():
             if alone:
                 line += f"; reading alone {alone:.3f} s" + (f", {alone / assembled:.3f} times as" if assembled else "")
             print(line, flush=True)
+        with open(path, "w") as out:
+            out.write(large)
+        print_scripts(mao[0], path)
     small, large = per_byte.get("GCC's form, 1 MiB"), per_byte.get("GCC's form, 32 MiB")
     if small and large:
         print(f"cost per byte at 32 MiB: {large / small:.2f} times that at 1 MiB")
