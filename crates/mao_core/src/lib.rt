@@ -3,6 +3,7 @@
 
 mod entries;
 mod exit;
+mod goals;
 mod lines;
 mod notes;
 mod preparing;
@@ -11,4 +12,5 @@ mod told;
 mod top;
 
 pub use exit::{exit_of, filter};
+pub use goals::{Goal, GoalKind, GoalList, Goals};
 pub use top::{Report, Status, mao};

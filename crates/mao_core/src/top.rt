@@ -8,6 +8,7 @@ ghost use Rattle.mao_core.specs.Outcome.{between, AreRead, IsCommand, IsWithinLi
 ghost use Rattle.mao_core.specs.Delivered.{IsDelivered};
 ghost use Rattle.mao_core.specs.Told.{status_line, IsOffered, IsTold};
 
+use crate::goals::{Goals, no_goals};
 use crate::preparing::{Prepared, prepare};
 use crate::told::{offer, tell};
 use asm_writer::write_unit;
@@ -43,16 +44,20 @@ pub struct Report {
     pub status: Status,
     /// The edits of the run, with a part for each step and clear function. None where nothing was written.
     pub journal: Journal,
+    /// What became of the goals of the passes that have any. No pass that is built has one.
+    pub goals: Goals,
 }
 
 // The report of a run that wrote nothing.
 fn report_of(alloc: Global, status: Status) -> Report
     ensures status { result.status ≡ status }
     ensures journal { result.journal ≡ [] }
+    ensures goals { result.goals.items ≡ [] }
 {
     Report {
         status,
         journal: Journal::new(alloc),
+        goals: no_goals(alloc),
     }
 }
 
@@ -60,6 +65,7 @@ fn report_of(alloc: Global, status: Status) -> Report
 fn refused<N: Sink>(alloc: Global, notes: &mut N, status: Status) -> Report
     ensures status { result.status ≡ status }
     ensures journal { result.journal ≡ [] }
+    ensures goals { result.goals.items ≡ [] }
     ensures told { IsOffered (N.taken notes.old) (N.taken notes.new) (N.faults notes.old) (N.faults notes.new) (status_line status) }
 {
     tell(notes, status);
@@ -67,9 +73,15 @@ fn refused<N: Sink>(alloc: Global, notes: &mut N, status: Status) -> Report
 }
 
 // The text and then the notes, put into their sinks.
-fn deliver<O: Sink, N: Sink>(out: &mut O, notes: &mut N, prepared: Prepared) -> Report
+fn deliver<O: Sink, N: Sink>(
+    alloc: Global,
+    out: &mut O,
+    notes: &mut N,
+    prepared: Prepared,
+) -> Report
     requires { AreWritable prepared.text.items prepared.unit.held }
     ensures journal { result.journal ≡ prepared.journal }
+    ensures goals { result.goals.items ≡ [] }
     ensures status { IsDelivered result.status prepared (O.taken out.old) (O.taken out.new) (O.faults out.old) (O.faults out.new)
         (N.taken notes.old) (N.taken notes.new) (N.faults notes.old) (N.faults notes.new) }
 {
@@ -88,6 +100,7 @@ fn deliver<O: Sink, N: Sink>(out: &mut O, notes: &mut N, prepared: Prepared) -> 
     Report {
         status,
         journal: prepared.journal,
+        goals: no_goals(alloc),
     }
 }
 
@@ -95,6 +108,7 @@ fn deliver<O: Sink, N: Sink>(out: &mut O, notes: &mut N, prepared: Prepared) -> 
 fn refuse_words<N: Sink>(alloc: Global, notes: &mut N, refusal: Refusal) -> Report
     ensures status { (result.status ≡ Status.NoMemory) ⊎ ((result.status ≡ Status.Usage) × (refusal ≢ Refusal.NoMemory)) }
     ensures journal { result.journal ≡ [] }
+    ensures goals { result.goals.items ≡ [] }
     ensures line { result.status ≡ Status.Usage → IsOffered (N.taken notes.old) (N.taken notes.new) (N.faults notes.old) (N.faults notes.new) (refusal_line refusal) }
     ensures memory { result.status ≡ Status.NoMemory → IsOffered (N.taken notes.old) (N.taken notes.new) (N.faults notes.old) (N.faults notes.new) (status_line Status.NoMemory) }
 {
@@ -143,6 +157,7 @@ pub fn mao<S: Source, O: Sink, N: Sink>(
         (N.taken notes.old) (N.taken notes.new) result.journal) }
     ensures unwritten { result.status ≢ Status.Fine → result.status ≢ Status.WriteFault → result.status ≢ Status.NotesFault
         → (out.new ≡ out.old) × (result.journal ≡ []) }
+    ensures goals { result.goals.items ≡ [] }
     ensures told { result.status ≢ Status.Fine → result.status ≢ Status.NotesFault
         → IsTold result.status (map (λ w. w.now) words.now) (N.taken notes.old) (N.taken notes.new) (N.faults notes.old) (N.faults notes.new) }
     ensures complete { IsCommand (map (λ w. w.now) words.now) → IsWithinLimits (S.left source.old)
@@ -155,7 +170,7 @@ pub fn mao<S: Source, O: Sink, N: Sink>(
         Err(refusal) => return refuse_words(alloc, notes, refusal),
     };
     match prepare(alloc, source, &asked, book) {
-        Ok(prepared) => deliver(out, notes, prepared),
+        Ok(prepared) => deliver(alloc, out, notes, prepared),
         Err(status) => refused(alloc, notes, status),
     }
 }

@@ -1,7 +1,7 @@
 use asm_writer::{directive_text, insn_text};
 use att_reader::read_entry;
 use insn_ir::{DirectiveKind, EntryKind};
-use mao_core::{Report, Status, mao};
+use mao_core::{Goal, GoalKind, GoalList, Report, Status, mao};
 use mao_outside::{MemSink, MemSource};
 use pass_base::{Pass, PassBook};
 use pass_drops::{NopIn, NopKill};
@@ -369,6 +369,24 @@ fn limits_are_exact(rt: HostRuntime) -> Result<(), Fail> {
         let taken = if status == Status::Fine { len } else { 0 };
         assert_eq!(rt; out.taken().len(), taken);
     }
+    Ok(())
+}
+
+#[test]
+fn goals_stand_in_their_order(rt: HostRuntime) -> Result<(), Fail> {
+    let mut goals = GoalList::new(rt.alloc());
+    assert!(rt; goals.as_slice().is_empty());
+    for (kind, met) in [(GoalKind::Loop16, true), (GoalKind::BrAlign, false)] {
+        goals.push(Goal {
+            f: 0,
+            kind,
+            first: 7,
+            second: 10,
+            met,
+        })?;
+    }
+    assert_eq!(rt; goals.as_slice().len(), 2);
+    assert_eq!(rt; goals.as_slice()[1].kind, GoalKind::BrAlign);
     Ok(())
 }
 
