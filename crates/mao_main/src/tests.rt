@@ -1,14 +1,19 @@
+ghost use Rattle.pass_script.specs.declared.kinds.PassKind.{PassKind};
+
+use asm_unit::AsmUnit;
 use asm_writer::{directive_text, insn_text};
 use att_reader::read_entry;
 use insn_ir::{DirectiveKind, EntryKind};
 use mao_core::{Goal, GoalKind, GoalList, Report, Status, mao};
 use mao_outside::{MemSink, MemSource};
-use pass_base::{Pass, PassBook};
+use pass_base::{Pass, PassBook, PassTally};
 use pass_drops::{NopIn, NopKill};
-use std::alloc::AllocGlobal;
+use pass_script::{PassKind, PassOpts};
+use std::alloc::{AllocError, AllocGlobal, Global};
 use std::boxed::Box;
 use std::process::Abort;
 use std::test::Fail;
+use unit_edits::Journal;
 
 const COMMAND: [&str; 2] = ["mao", "--mao=NOPKILL"];
 
@@ -369,6 +374,68 @@ fn limits_are_exact(rt: HostRuntime) -> Result<(), Fail> {
         let taken = if status == Status::Fine { len } else { 0 };
         assert_eq!(rt; out.taken().len(), taken);
     }
+    Ok(())
+}
+
+// NOPKILL that always wants memory.
+#[derive(Drop)]
+struct Wanting {
+    opts: PassOpts,
+}
+
+impl Pass for Wanting {
+    ghost its_kind = { λ _. PassKind.NopKill };
+
+    ghost its_opts = { λ p. p.opts };
+
+    ghost its_count = { λ _. 0 };
+
+    fn kind(&self) -> PassKind {
+        PassKind::NopKill
+    }
+
+    fn set(&mut self, opts: &PassOpts) {
+        self.opts = *opts;
+    }
+
+    fn run(
+        &mut self,
+        _alloc: Global,
+        _unit: &mut AsmUnit,
+        _f: u32,
+        _journal: &mut Journal,
+    ) -> Result<PassTally, AllocError> {
+        Err(AllocError)
+    }
+}
+
+const DEFAULTS: PassOpts = PassOpts {
+    seed: 1,
+    density: 10,
+    align: 0,
+    max: 16,
+};
+
+#[test]
+fn the_boxes_do_the_work(rt: HostRuntime) -> Result<(), Fail> {
+    let mut boxes: Vec<Box<dyn Pass>> = Vec::new(rt.alloc());
+    boxes.push(Box::new(rt.alloc(), NopIn::new())?)?;
+    boxes.push(Box::new(rt.alloc(), Wanting { opts: DEFAULTS })?)?;
+    let mut book = PassBook::new(boxes).expect(&rt, "a box for each kind of the catalogue");
+    let mut source = MemSource::new(WITH_NOPS.to_vec(rt.alloc())?, 1000, Vec::new(rt.alloc()));
+    let mut out = MemSink::new(rt.alloc(), 200, 64, Vec::new(rt.alloc()))?;
+    let mut notes = MemSink::new(rt.alloc(), 200, 64, Vec::new(rt.alloc()))?;
+    let report = mao(
+        rt.alloc(),
+        &COMMAND,
+        &mut source,
+        &mut out,
+        &mut notes,
+        &mut book,
+    );
+    assert_eq!(rt; report.status, Status::NoMemory);
+    assert_eq!(rt; out.taken(), b"".as_slice());
+    assert_eq!(rt; notes.taken(), b"mao: out of memory\n".as_slice());
     Ok(())
 }
 
